@@ -1,10 +1,8 @@
 -- The plant second (01, "Units and the plant second"): "Its second is 36 bytes, little-endian, signed ones in two's complement."
 use Prim.Native.Nat.{ℕ, _/_, _%_}
-use mathlib.Core.Path.{_≡_}
 use mathlib.Core.Bool.{cond}
 use mathlib.Core.List.{List}
 use lib.Dec.{eqb}
-use lib.IntN.{ℤ}
 use lib.ListN.{length, getD}
 use Rattle.codec.specs.Little.{u32At, i16At, i32At}
 use Rattle.power.specs.Units.{kw}
@@ -33,20 +31,6 @@ recordOf s =
       status = getD s 34 0;
       call = getD s 35 0;
     }
-
--- the same, field by field
-pub record FieldsAre (s : List ℕ) (x : Record) : Type 0 where
-  pub measured : x .measured .0 ≡ i32At s 0
-  pub working-point : x .«working_point» .0 ≡ i32At s 4
-  pub fcr-held : x .«fcr_held» .0 ≡ i32At s 8
-  pub afrr-up : x .«afrr_up» .0 ≡ i32At s 12
-  pub afrr-down : x .«afrr_down» .0 ≡ i32At s 16
-  pub afrr-setpoint : x .«afrr_setpoint» .0 ≡ i32At s 20
-  pub mfrr-target : x .«mfrr_target» .0 ≡ i32At s 24
-  pub delivery-end : x .«delivery_end» ≡ u32At s 28
-  pub deviation : x .deviation .0 ≡ i16At s 32
-  pub status : x .status ≡ getD s 34 0
-  pub call : x .call ≡ getD s 35 0
 
 -- "A plant second not of 36 bytes .. gets 12" (01, "When a book is turned down")
 unfoldable pub readingOf : List ℕ → Reading

@@ -5,7 +5,7 @@ ghost use mathlib.Core.Path.{_≡_};
 ghost use Prim.Native.Nat.{_+_, _≤_};
 ghost use lib.ListN.{length};
 ghost use Rattle.codec.specs.Little.{i32At};
-ghost use Rattle.record.specs.Record.{FieldsAre, readingOf, bitsOf};
+ghost use Rattle.record.specs.Record.{size, recordOf, readingOf, bitsOf};
 
 // The bytes of a plant second.
 pub const SIZE: usize = 36;
@@ -46,9 +46,9 @@ fn power_at(s: &[u8], at: usize) -> Kw
 }
 
 // The fields of 36 bytes.
-fn fields_of(s: &[u8]) -> Record
-    requires { ⌜ length (now s) ≡ 36 ⌝ }
-    ensures { λ r. ⌜ FieldsAre (now (s .entry)) r ⌝ }
+pub fn fields_of(s: &[u8]) -> Record
+    requires { ⌜ length (now s) ≡ size ⌝ }
+    ensures { λ r. ⌜ r ≡ recordOf (now (s .entry)) ⌝ }
 {
     Record {
         measured: power_at(s, 0),
