@@ -1,0 +1,9 @@
+pub mod Cases
+pub mod Range
+pub mod Summed
+pub mod Mirror
+pub mod Bound
+pub mod Moved
+pub mod Edges
+pub mod Steps
+pub mod Claims
