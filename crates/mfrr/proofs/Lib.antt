@@ -1,0 +1,10 @@
+pub mod Ramps
+pub mod Places
+pub mod Ready
+pub mod Rules
+pub mod Phases
+pub mod Held
+pub mod Past
+pub mod Inside
+pub mod Steps
+pub mod Called

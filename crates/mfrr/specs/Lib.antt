@@ -1,0 +1,8 @@
+pub mod Signal
+pub mod Band
+pub mod Leftovers
+pub mod Rules
+pub mod Refusals
+pub mod State
+pub mod Claims
+pub mod Values

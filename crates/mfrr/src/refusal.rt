@@ -1,0 +1,72 @@
+// When a call is turned down (01, "When a book is turned down"): 8 for its target, 9 for its end, 10 for a ninth leftover.
+use crate::leftovers::count;
+use crate::leftovers::Leftover;
+use crate::leftovers::MOST_LEFTOVERS;
+use crate::signal::Phase;
+use crate::signal::QUARTER_HOUR;
+use power::Kw;
+ghost use mathlib.Core.Path.{_≡_};
+ghost use Prim.Native.Nat.{_<_};
+ghost use lib.ListN.{length};
+ghost use Rattle.mfrr.specs.Refusals.{mostSeconds, targetOut, endOut, ninth};
+ghost use Rattle.mfrr.specs.State.{restingIn, held, numberOf};
+
+// The range of targets, in kW.
+const MOST_POWER: i32 = 1_000_000;
+
+const LEAST_POWER: i32 = -MOST_POWER;
+
+// A delivery ends at most this many seconds after its call.
+const LONGEST_CALL: u32 = 3600;
+
+fn target_out(target: Kw) -> bool
+    ensures { λ r. ⌜ r ≡ targetOut (target .0) ⌝ }
+{
+    target.0 < LEAST_POWER || MOST_POWER < target.0
+}
+
+fn end_out(t: u32, end: u32) -> bool
+    requires { ⌜ t < mostSeconds ⌝ }
+    ensures { λ r. ⌜ r ≡ endOut t end ⌝ }
+{
+    if end % QUARTER_HOUR != 0 {
+        return true;
+    }
+    if end < t + QUARTER_HOUR {
+        return true;
+    }
+    t + LONGEST_CALL < end
+}
+
+// A call in this phase ends a call that leaves a ninth leftover.
+fn is_ninth(phase: Phase, places: [Leftover; MOST_LEFTOVERS]) -> bool
+    ensures { λ r. ⌜ r ≡ ninth (restingIn phase) (length (held places)) ⌝ }
+{
+    if phase.is_resting() {
+        return false;
+    }
+    MOST_LEFTOVERS <= count(places)
+}
+
+// The number of the first rule that turns a call at `t` down, or 0.
+pub fn refusal_of(
+    phase: Phase,
+    places: [Leftover; MOST_LEFTOVERS],
+    t: u32,
+    target: Kw,
+    end: u32,
+) -> u8
+    requires { ⌜ t < mostSeconds ⌝ }
+    ensures { λ r. ⌜ r ≡ numberOf phase places t (target .0) end ⌝ }
+{
+    if target_out(target) {
+        return 8;
+    }
+    if end_out(t, end) {
+        return 9;
+    }
+    if is_ninth(phase, places) {
+        return 10;
+    }
+    0
+}
