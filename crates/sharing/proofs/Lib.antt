@@ -1,0 +1,4 @@
+pub mod Counts
+pub mod Rank
+pub mod Shared
+pub mod Values
