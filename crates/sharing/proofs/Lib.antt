@@ -2,3 +2,6 @@ pub mod Counts
 pub mod Rank
 pub mod Shared
 pub mod Values
+pub mod Walk
+pub mod Down
+pub mod Three

@@ -1,4 +1,11 @@
 // Sharing a plant's error over its kinds (01, "Sharing").
+mod parts;
 mod shares;
 
+pub use shares::Part;
+pub use shares::Parts;
+pub use shares::Shares;
 pub use shares::Weighed;
+
+// The kinds of a plant: FCR, aFRR, mFRR.
+pub const KINDS: usize = 3;
