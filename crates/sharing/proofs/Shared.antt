@@ -1,5 +1,5 @@
 -- The claims on sharing hold, for any number of kinds. Assumes nothing.
-use Prim.Native.Nat.{ℕ, zero, suc, _+_, _*_, _/_, _%_, _≤_, _<_}
+use Prim.Native.Nat.{ℕ, zero, suc, _+_, _-_, _*_, _/_, _%_, _≤_, _<_}
 use mathlib.Core.Path.{_≡_, refl, ap, sym, _∙_}
 use mathlib.Core.Logic.{_⊎_, inl, inr, ⊎-elim}
 use mathlib.Core.Bool.{Bool, true, false, _||_, true≢false, cond}
@@ -29,6 +29,10 @@ fits e T t x h l b r =
     (flag 0 x))
     (λ w. w .0)
     (flag t (e * t / T + x))
+
+pub sum-by-tolerance : (e : ℕ) (ts : List ℕ) → 0 < sum ts → sum (byTolerance e ts) ≡ e
+sum-by-tolerance e ts h =
+    omega (arith, sum-plus (floors e (sum ts) ts) (extras (missing e ts) (rests e (sum ts) ts)), given e ts h, floors-le e ts h)
 
 within-fits : (e T : ℕ) (ts xs : List ℕ) → 0 < T → e ≤ T → length xs ≡ length ts → Only xs (rests e T ts) → AllAtMost (plus (floors e T ts) xs) ts
 within-fits e T [] [] h l n o = tt
@@ -97,6 +101,33 @@ within-none : (ks : List Weighed) → AllAtMost (none ks) (tolerances ks)
 within-none [] = tt
 within-none (k ∷ ks) = (omega arith, within-none ks)
 
+sum-first-le : (e : ℕ) (ks : List Weighed) → sum (toFirst e ks) ≤ e
+sum-first-le e [] = omega arith
+sum-first-le e (k ∷ ks) = go (k .on) (sum-first-le e ks)
+  where
+    go : (b : Bool) → sum (toFirst e ks) ≤ e → sum (cond b (e ∷ none ks) (0 ∷ toFirst e ks)) ≤ e
+    go true ih = omega (arith, sum-none ks)
+    go false ih = omega arith
+
+first-none : (ks : List Weighed) → toFirst 0 ks ≡ none ks
+first-none [] = refl
+first-none (k ∷ ks) = go (k .on) (first-none ks)
+  where
+    go : (b : Bool) → toFirst 0 ks ≡ none ks → cond b (0 ∷ none ks) (0 ∷ toFirst 0 ks) ≡ 0 ∷ none ks
+    go true ih = refl
+    go false ih = ap (λ (l : List ℕ). 0 ∷ l) ih
+
+-- kind by kind: a kind on takes all that is left, one off nothing
+pub first-next : (e x : ℕ) (k : Weighed) (ks : List Weighed) → x ≡ cond (k .on) e 0 → toFirst e (k ∷ ks) ≡ x ∷ toFirst (e - x) ks
+first-next e x k ks q = go (k .on) q
+  where
+    rest : (n : ℕ) → n ≡ 0 → toFirst n ks ≡ none ks
+    rest n z = ap (λ (m : ℕ). toFirst m ks) z ∙ first-none ks
+
+    go : (b : Bool) → x ≡ cond b e 0 → cond b (e ∷ none ks) (0 ∷ toFirst e ks) ≡ x ∷ toFirst (e - x) ks
+    go true q = λ i. sym q i ∷ sym (rest (e - x) (omega arith)) i
+    go false q = λ i. sym q i ∷ toFirst (let z : e ≡ e - x = omega arith in z i) ks
+
 module _ (e : ℕ) where
   sum-first : (ks : List Weighed) → anyOn ks ≡ true → sum (toFirst e ks) ≡ e
   sum-first [] a = absurd (true≢false (sym a))
@@ -133,7 +164,7 @@ module _ (e : ℕ) (ks : List Weighed) where
       let n : length xs ≡ length ts = length-extras (rests e T ts) (missing e ts) ∙ length-map ts (restOf e T) in
       let o = only e ts h in
       let s = by-tolerance h in
-      let w : sum (shares e ks) ≡ e = rw s (omega (arith, sum-plus (floors e T ts) xs, given e ts h, floors-le e ts h)) in
+      let w : sum (shares e ks) ≡ e = rw s (sum-by-tolerance e ts h) in
       let r : Rounded e T (shares e ks) ts = rw s (rounded-of e T ts xs n o) in
       record {
         whole = λ a. w;
@@ -160,6 +191,14 @@ module _ (e : ℕ) (ks : List Weighed) where
         rounded = λ z. absurd (omega arith);
         ranked = λ z. absurd (omega arith);
       }
+
+  -- no share is above the error, for they add up to it, or to 0 where no kind is on
+  pub sum-le : sum (shares e ks) ≤ e
+  sum-le =
+      ⊎-elim
+      (λ w. rw (by-tolerance (w .0)) (omega (arith, sum-by-tolerance e (tolerances ks) (w .0))))
+      (λ w. rw (to-first (omega arith)) (sum-first-le e ks))
+      (flag 0 (total ks))
 
   pub shared : Shared e ks
   shared = ⊎-elim (λ w. some-tolerance (w .0)) (λ w. no-tolerance (omega arith)) (flag 0 (total ks))

@@ -1,6 +1,7 @@
 -- What the steps of sharing over three kinds ask and answer.
 use Prim.Native.Nat.{ℕ, _+_, _*_, _≤_, _<_}
 use mathlib.Core.Path.{_≡_}
+use mathlib.Core.Bool.{cond}
 use mathlib.Core.List.{List, [], _∷_}
 use lib.Dec.{ltb}
 use mir.Syntax.{w64}
@@ -32,6 +33,11 @@ pub record RoundedDown (e : ℕ) (ts : List ℕ) (m : ℕ) (fs rs : List ℕ) : 
   pub missing-is : m ≡ missing e ts
   pub floors-are : fs ≡ floors e (sum ts) ts
   pub rests-are : rs ≡ rests e (sum ts) ts
+
+-- what a kind takes where the first kind on takes all that is left
+pub record Taken (k : Weighed) (left r : ℕ) : Type 0 where
+  pub value : r ≡ cond (k .on) left 0
+  pub most : r ≤ left
 
 -- the three kinds, in their order
 abbrev pub floorsIn : Parts → List ℕ

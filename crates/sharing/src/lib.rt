@@ -6,6 +6,7 @@ pub use shares::Part;
 pub use shares::Parts;
 pub use shares::Shares;
 pub use shares::Weighed;
+pub use shares::share;
 
 // The kinds of a plant: FCR, aFRR, mFRR.
 pub const KINDS: usize = 3;

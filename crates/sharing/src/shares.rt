@@ -7,8 +7,8 @@ ghost use mathlib.Core.List.{List, [], _∷_};
 ghost use Prim.Native.Nat.{_+_, _≤_};
 ghost use mir.Syntax.{w64};
 ghost use mir.Val.{Fits};
-ghost use Rattle.sharing.specs.Shares.{toleranceOf, tolerances, plus, toFirst};
-ghost use Rattle.sharing.specs.Parts.{Fitting, Divisible, PartsAre, SharesAre, floorsIn, extrasIn, sharesIn};
+ghost use Rattle.sharing.specs.Shares.{sum, toleranceOf, tolerances, plus, toFirst};
+ghost use Rattle.sharing.specs.Parts.{Fitting, Divisible, Taken, PartsAre, SharesAre, floorsIn, extrasIn, sharesIn};
 
 // A kind of reserve for sharing: whether it is on, and its tolerance in kW in the error's direction.
 pub struct Weighed {
@@ -43,14 +43,39 @@ impl Weighed {
     {
         if self.on { self.tolerance } else { 0 }
     }
+
+    // What a kind takes of the kW left, where the first kind on takes all.
+    fn taken(self, left: u64) -> u64
+        ensures { λ r. ⌜ Taken self left r ⌝ }
+    {
+        if self.on { left } else { 0 }
+    }
 }
 
 impl Part {
+    // The share.
     fn whole(self) -> u64
         requires { ⌜ Fits w64 (self .floor + self .extra) ⌝ }
         ensures { λ r. ⌜ r ≡ self .floor + self .extra ⌝ }
     {
         self.floor + self.extra
+    }
+}
+
+impl Parts {
+    // The shares rounded down with the extra kW.
+    fn added(self) -> Shares
+        requires { ⌜ Fits w64 (sum (plus (floorsIn self) (extrasIn self))) ⌝ }
+        ensures { λ r. ⌜ sharesIn r ≡ plus (floorsIn self) (extrasIn self) ⌝ }
+    {
+        let fcr = self.fcr;
+        let afrr = self.afrr;
+        let mfrr = self.mfrr;
+        Shares {
+            fcr: fcr.whole(),
+            afrr: afrr.whole(),
+            mfrr: mfrr.whole(),
+        }
     }
 }
 
@@ -81,4 +106,32 @@ fn parts_of(error: u64, total: u64, tolerances: [u64; KINDS]) -> Parts
             extra: extras[2],
         },
     }
+}
+
+// T = 0: all to the first kind on.
+fn to_first(error: u64, fcr: Weighed, afrr: Weighed, mfrr: Weighed) -> Shares
+    ensures { λ r. ⌜ sharesIn r ≡ toFirst error (fcr ∷ afrr ∷ mfrr ∷ []) ⌝ }
+{
+    let a = fcr.taken(error);
+    let b = afrr.taken(error - a);
+    let c = mfrr.taken(error - a - b);
+    Shares {
+        fcr: a,
+        afrr: b,
+        mfrr: c,
+    }
+}
+
+// The size of an error, shared over the three kinds.
+pub fn share(error: u64, fcr: Weighed, afrr: Weighed, mfrr: Weighed) -> Shares
+    requires { ⌜ Fitting error (tolerances (fcr ∷ afrr ∷ mfrr ∷ [])) ⌝ }
+    ensures { λ r. ⌜ SharesAre error (fcr ∷ afrr ∷ mfrr ∷ []) r ⌝ }
+{
+    let tolerances = [fcr.counted(), afrr.counted(), mfrr.counted()];
+    let total = parts::total(&tolerances);
+    if total == 0 {
+        return to_first(error, fcr, afrr, mfrr);
+    }
+    let parts = parts_of(error, total, tolerances);
+    parts.added()
 }
