@@ -5,3 +5,4 @@ pub mod Values
 pub mod Walk
 pub mod Down
 pub mod Three
+pub mod Signs

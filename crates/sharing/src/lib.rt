@@ -1,7 +1,9 @@
 // Sharing a plant's error over its kinds (01, "Sharing").
+mod kinds;
 mod parts;
 mod shares;
 
+pub use kinds::Kind;
 pub use shares::Part;
 pub use shares::Parts;
 pub use shares::Shares;
