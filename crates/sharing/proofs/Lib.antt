@@ -6,3 +6,4 @@ pub mod Walk
 pub mod Down
 pub mod Three
 pub mod Signs
+pub mod Rows

@@ -1,13 +1,21 @@
--- What is claimed of sharing, for every list of kinds and every error. The proof is `shared` of proofs/Shared.antt.
+-- What is claimed of sharing, for every list of kinds and every error. The proofs are `shared` of proofs/Shared.antt, and `plant` and
+-- `row-shared` of proofs/Rows.antt.
 use Prim.Native.Nat.{ℕ, suc, _+_, _≤_, _<_}
 use mathlib.Core.Path.{_≡_}
 use mathlib.Core.Logic.{_↔_, _⊎_}
 use mathlib.Core.Bool.{true, false}
 use mathlib.Core.List.{List, [], _∷_}
 use lib.Dec.{leb, ltb}
+use lib.IntN.{ℤ, pos, natAbs, _+ℤ_}
 use lib.ListN.{length, getD, take, drop}
+use Rattle.numbers.specs.Bounds.{Within}
+use Rattle.power.specs.Inward.{Published}
+use Rattle.row.specs.declared.KindRow.{KindRow}
+use Rattle.row.specs.Row.{kindsOf, AllInBand, sumActuals}
 use Rattle.sharing.specs.declared.shares.Weighed.{Weighed}
+use Rattle.sharing.specs.declared.kinds.Kind.{Kind}
 use Rattle.sharing.specs.Shares.{one, sum, anyOn, tolerances, total, floorOf, floors, restOf, rests, missing, larger, extras, shares}
+use Rattle.sharing.specs.Rows.{someOn, errorOf, totalOf, kindRows, openOf, three, rowOf}
 
 -- as many shares as tolerances, each at most the tolerance at its place
 abbrev pub AllAtMost : List ℕ → List ℕ → Type 0
@@ -57,3 +65,38 @@ pub record Shared (e : ℕ) (ks : List Weighed) : Type 0 where
   pub ranked : 0 < total ks → (i : ℕ) → i < length ks
     → getD (shares e ks) i 0
     ≡ getD (floors e (total ks) (tolerances ks)) i 0 + one (ltb (before (rests e (total ks) (tolerances ks)) i) (missing e (tolerances ks)))
+
+-- ---- with setpoints, bands and signs
+
+-- "Every band contains its setpoint", as published, of each kind on
+abbrev pub AllPublished : List Kind → Type 0
+AllPublished [] = Unit
+AllPublished (k ∷ ks) = (k .on ≡ true → Published (k .band) (k .setpoint .0)) × AllPublished ks
+
+-- no share is larger than B
+abbrev pub SharesWithin : ℕ → List KindRow → Type 0
+SharesWithin B [] = Unit
+SharesWithin B (r ∷ rs) = Within B (r .share .0) × SharesWithin B rs
+
+-- d is measured - working point
+pub record PlantShared (d : ℤ) (ks : List Kind) : Type 0 where
+  -- the actual values, all 0 but those of the kinds on, and open make up measured - working point
+  pub balance : sumActuals (kindRows d ks) +ℤ openOf d ks ≡ d
+  -- a kind on: they do so by themselves
+  pub whole : someOn ks ≡ true → sumActuals (kindRows d ks) ≡ d
+  pub open-none : someOn ks ≡ true → openOf d ks ≡ pos 0
+  pub open-all : someOn ks ≡ false → openOf d ks ≡ d
+  -- all kinds lie within their bands exactly when the error lies within the summed bands
+  pub within : AllPublished ks → someOn ks ≡ true → AllInBand (kindRows d ks) ↔ (natAbs (errorOf d ks) ≤ totalOf d ks)
+  pub each : SharesWithin (natAbs (errorOf d ks)) (kindRows d ks)
+
+-- the same of the row at three kinds
+pub record RowShared (d : ℤ) (a b c : Kind) : Type 0 where
+  pub kinds-are : kindsOf (rowOf d a b c) ≡ kindRows d (three a b c)
+  pub open-is : rowOf d a b c .«open» .0 ≡ openOf d (three a b c)
+  pub balance : sumActuals (kindsOf (rowOf d a b c)) +ℤ rowOf d a b c .«open» .0 ≡ d
+  pub whole : someOn (three a b c) ≡ true → sumActuals (kindsOf (rowOf d a b c)) ≡ d
+  pub open-none : someOn (three a b c) ≡ true → rowOf d a b c .«open» .0 ≡ pos 0
+  pub open-all : someOn (three a b c) ≡ false → rowOf d a b c .«open» .0 ≡ d
+  pub within : AllPublished (three a b c) → someOn (three a b c) ≡ true
+    → AllInBand (kindsOf (rowOf d a b c)) ↔ (natAbs (errorOf d (three a b c)) ≤ totalOf d (three a b c))
