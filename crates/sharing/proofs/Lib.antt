@@ -7,3 +7,4 @@ pub mod Down
 pub mod Three
 pub mod Signs
 pub mod Rows
+pub mod Sizes

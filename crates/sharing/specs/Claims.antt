@@ -100,3 +100,4 @@ pub record RowShared (d : ℤ) (a b c : Kind) : Type 0 where
   pub open-all : someOn (three a b c) ≡ false → rowOf d a b c .«open» .0 ≡ d
   pub within : AllPublished (three a b c) → someOn (three a b c) ≡ true
     → AllInBand (kindsOf (rowOf d a b c)) ↔ (natAbs (errorOf d (three a b c)) ≤ totalOf d (three a b c))
+  pub each : SharesWithin (natAbs (errorOf d (three a b c))) (kindsOf (rowOf d a b c))
