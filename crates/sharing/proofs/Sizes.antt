@@ -1,0 +1,82 @@
+-- Sizes of a plant's row: the error is at most D and the setpoints on, no share is above it, and an actual is one setpoint more. Assumes nothing.
+use Prim.Native.Nat.{ℕ, _+_, _*_, _≤_}
+use mathlib.Core.Path.{_≡_, refl}
+use mathlib.Core.Bool.{Bool, true, false, cond}
+use mathlib.Core.List.{List, [], _∷_}
+use native.Mathlib.Omega.{arith}
+use lib.IntN.{ℤ, pos, natAbs, _+ℤ_, _-ℤ_}
+use Rattle.numbers.specs.Bounds.{Within}
+use Rattle.numbers.proofs.Fit.{within-lit, within-cond}
+use Rattle.numbers.proofs.Parts.{nat-within, within-nat, add-nat, sub-nat}
+use Rattle.sharing.specs.declared.kinds.Kind.{Kind}
+use Rattle.sharing.specs.Shares.{sum}
+use Rattle.sharing.specs.Rows.{someOn, setpointOn, errorOf, upward, weighed, sharesOf, signed, kindRow, rowsBy, kindRows, openOf, three, rowWith, rowOf}
+use Rattle.sharing.specs.Claims.{OffNone}
+use Rattle.sharing.specs.Sizes.{mostSetpoint, SizedKind, SizedKinds, SizedKindRow, SizedRow}
+use Rattle.sharing.proofs.Shared.{shared, sum-le}
+use Rattle.sharing.proofs.Rows.{signed-size}
+
+pub setpoint-on : (k : Kind) → SizedKind k → Within mostSetpoint (setpointOn k)
+setpoint-on k s = within-cond mostSetpoint (k .on) (k .setpoint .0) (pos 0) (s .setpoint) (within-lit mostSetpoint (pos 0) tt)
+
+less : (A B C : ℕ) (d s : ℤ) → A + B ≤ C → Within A d → Within B s → Within C (d -ℤ s)
+less A B C d s h p q = nat-within (omega (arith, sub-nat d s, within-nat p, within-nat q))
+
+more : (A B C : ℕ) (d s : ℤ) → A + B ≤ C → Within A d → Within B s → Within C (d +ℤ s)
+more A B C d s h p q = nat-within (omega (arith, add-nat d s, within-nat p, within-nat q))
+
+module _ (D : ℕ) (d : ℤ) (a b c : Kind) (w : Within D d) (s : SizedKinds a b c) where
+  pub error-within : Within (D + 3 * mostSetpoint) (errorOf d (three a b c))
+  error-within =
+      less (D + 2 * mostSetpoint) mostSetpoint _ _ _ (omega arith)
+      (less (D + mostSetpoint) mostSetpoint _ _ _ (omega arith)
+      (less D mostSetpoint _ _ _ (omega arith) w (setpoint-on a (s .fcr)))
+      (setpoint-on b (s .afrr)))
+      (setpoint-on c (s .mfrr))
+
+signed-within : (B : ℕ) (t : Bool) (x : ℕ) → x ≤ B → Within B (signed t x)
+signed-within B t x h = record { within = rw (signed-size t x) h }
+
+kind-sized : (D : ℕ) (t : Bool) (k : Kind) (x : ℕ) → SizedKind k → x ≤ D + 3 * mostSetpoint → SizedKindRow D (kindRow t k x)
+kind-sized D t k x s h = go (k .on) refl
+  where
+    zero : (B : ℕ) → Within B (pos 0)
+    zero B = record { within = omega arith }
+
+    go : (u : Bool) → k .on ≡ u → SizedKindRow D (kindRow t k x)
+    go true q =
+        rw q
+        (record {
+          setpoint = s .setpoint;
+          low = s .low;
+          high = s .high;
+          share = signed-within (D + 3 * mostSetpoint) t x h;
+          actual = more mostSetpoint (D + 3 * mostSetpoint) (D + 4 * mostSetpoint) _ _ (omega arith) (s .setpoint) (signed-within (D + 3 * mostSetpoint) t x h);
+        })
+    go false q = rw q (record { setpoint = zero _; low = zero _; high = zero _; share = zero _; actual = zero _ })
+
+rows-sized : (D : ℕ) (t : Bool) (a b c : Kind) (xs : List ℕ) (o : ℤ) → SizedKinds a b c → Within D o → OffNone xs (weighed t (three a b c))
+    → sum xs ≤ D + 3 * mostSetpoint → SizedRow D (rowWith (rowsBy t (three a b c) xs) o)
+rows-sized D t a b c [] o s w n h = absurd n
+rows-sized D t a b c (x ∷ []) o s w n h = absurd (n .1)
+rows-sized D t a b c (x ∷ y ∷ []) o s w n h = absurd (n .1 .1)
+rows-sized D t a b c (x ∷ y ∷ z ∷ []) o s w n h =
+    record {
+      fcr = kind-sized D t a x (s .fcr) (omega arith);
+      afrr = kind-sized D t b y (s .afrr) (omega arith);
+      mfrr = kind-sized D t c z (s .mfrr) (omega arith);
+      open-within = w;
+    }
+rows-sized D t a b c (x ∷ y ∷ z ∷ v ∷ xs) o s w n h = absurd (n .1 .1 .1)
+
+open-sized : (D : ℕ) (d : ℤ) (ks : List Kind) → Within D d → Within D (openOf d ks)
+unfolding openOf
+open-sized D d ks w = within-cond D (someOn ks) (pos 0) d (record { within = omega arith }) w
+
+pub sized : (D : ℕ) (d : ℤ) (a b c : Kind) → Within D d → SizedKinds a b c → SizedRow D (rowOf d a b c)
+unfolding rowOf kindRows
+sized D d a b c w s =
+    let e : ℤ = errorOf d (three a b c) in
+    rows-sized D (upward e) a b c (sharesOf d (three a b c)) (openOf d (three a b c)) s (open-sized D d (three a b c) w)
+    (shared (natAbs e) (weighed (upward e) (three a b c)) .off)
+    (omega (arith, sum-le (natAbs e) (weighed (upward e) (three a b c)), error-within D d a b c w s .within))
