@@ -1,0 +1,5 @@
+pub mod Tests
+pub mod Answers
+pub mod Parts
+pub mod Taken
+pub mod Laid

@@ -1,0 +1,40 @@
+-- The figures of a block (01, "Blocks and text").
+use Prim.Native.Nat.{ℕ}
+
+-- "512 bytes each"
+abbrev pub blockSize : ℕ
+blockSize = 512
+
+-- "Check, bytes 508-511"
+abbrev pub checkAt : ℕ
+checkAt = 508
+
+-- "from 16 on 108 bytes a second"
+abbrev pub bodyAt : ℕ
+bodyAt = 16
+
+abbrev pub secondSize : ℕ
+secondSize = 108
+
+-- "seconds in it (4, fewer only in the last)"
+abbrev pub perBlock : ℕ
+perBlock = 4
+
+-- the first byte past the header's fields, and past a later block's
+abbrev pub headerEnd : ℕ
+headerEnd = 12
+
+abbrev pub countEnd : ℕ
+countEnd = 5
+
+-- "seconds 0 or above 90,000"
+abbrev pub mostSeconds : ℕ
+mostSeconds = 90000
+
+-- "owner above 7"
+abbrev pub mostOwner : ℕ
+mostOwner = 7
+
+-- "version 1"
+abbrev pub version : ℕ
+version = 1

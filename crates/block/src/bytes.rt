@@ -1,0 +1,56 @@
+// Check and spare bytes of a block.
+ghost use mathlib.Core.Path.{_≡_};
+ghost use Prim.Native.Nat.{_+_, _*_, _≤_, _<_};
+ghost use lib.ListN.{length};
+ghost use Rattle.block.specs.Places.{checkAt};
+ghost use Rattle.block.specs.Bytes.{part, allZero};
+ghost use Rattle.block.specs.Check.{checkOf};
+use crate::CHECK_AT;
+
+fn wide(x: u8) -> u32
+    ensures { λ r. ⌜ (r ≡ x) × (r < 256) ⌝ }
+{
+    x as u32
+}
+
+pub(crate) fn size(x: u8) -> usize
+    ensures { λ r. ⌜ r ≡ x ⌝ }
+{
+    x as usize
+}
+
+// One term of the check sum.
+fn weighed(i: usize, b: u8) -> u32
+    requires { ⌜ i < checkAt ⌝ }
+    ensures { λ r. ⌜ (r ≡ (i + 1) * b) × (r ≤ checkAt * 255) ⌝ }
+{
+    (i as u32 + 1) * wide(b)
+}
+
+pub(crate) fn check_of(s: &[u8]) -> u32
+    requires { ⌜ checkAt ≤ length (now s) ⌝ }
+    ensures { λ r. ⌜ r ≡ checkOf (now (s .entry)) ⌝ }
+{
+    let mut sum: u32 = 1;
+    let mut i: usize = 0;
+    while i < CHECK_AT {
+        sum += weighed(i, s[i]);
+        i += 1;
+    }
+    sum
+}
+
+// Whether bytes from to end - 1 are all 0.
+pub(crate) fn is_zero(s: &[u8], from: usize, end: usize) -> bool
+    requires { ⌜ (from ≤ end) × (end ≤ length (now s)) ⌝ }
+    ensures { λ r. ⌜ r ≡ allZero (part (now (s .entry)) from end) ⌝ }
+{
+    let mut i = from;
+    while i < end {
+        if s[i] != 0 {
+            return false;
+        }
+        i += 1;
+    }
+    true
+}

@@ -1,0 +1,93 @@
+-- Every line has room, and document 01's example. Assumes nothing.
+use mathlib.Core.Path.{_≡_, refl, ap}
+use mathlib.Core.List.{List, _++_}
+use Prim.Native.Nat.{ℕ, _+_, _^_, _≤_, _<_}
+use Prim.Native.Char.{code}
+use native.Mathlib.Omega.{arith}
+use lib.ListN.{length, length-append}
+use lib.Dec.{lit<}
+use lib.IntN.{ℤ}
+use mir.Syntax.{w64}
+use mir.Val.{SFits}
+use Rattle.row.specs.declared.KindRow.{KindRow}
+use Rattle.row.specs.declared.Row.{Row}
+use Rattle.line.specs.declared.sums.Sums.{Sums}
+use Rattle.line.specs.Text.{ascii, digits, digitsIn, decimal, field, named}
+use Rattle.line.specs.Widths.{lineRoom, rowRoom, plantWidth, kindWidth, sumWidth}
+use Rattle.line.specs.Line.{plantText, secondText, sumText, refusalText, kindText, rowText}
+use Rattle.line.specs.Claims.{Kind32, Row32, Sums64, Lengths, Examples}
+use Rattle.line.proofs.Digits.{digits-by}
+use Rattle.line.proofs.Lengths.{count-most, decimal-64, field-most}
+
+plant-most : (l : ℕ) (x : Row) → Row32 x → length (plantText l x) ≤ plantWidth
+unfolding plantText
+plant-most l x f =
+    let fcr = field-most (x .fcr .actual .0) (f .fcr .actual) in
+    let afrr = field-most (x .afrr .actual .0) (f .afrr .actual) in
+    let mfrr = field-most (x .mfrr .actual .0) (f .mfrr .actual) in
+    let rest = field-most (x .«open» .0) (f .«open») in
+    simp length-append (omega arith)
+
+kind-most : (k : KindRow) → Kind32 k → length (kindText k) ≤ kindWidth
+unfolding kindText
+kind-most k f =
+    let setpoint = field-most (k .setpoint .0) (f .setpoint) in
+    let low = field-most (k .band .low .0) (f .low) in
+    let high = field-most (k .band .high .0) (f .high) in
+    let share = field-most (k .share .0) (f .share) in
+    let actual = field-most (k .actual .0) (f .actual) in
+    simp length-append (omega arith)
+
+named-most : (name : List ℕ) (z : ℤ) → SFits w64 z → length (named name z) ≤ length name + sumWidth
+unfolding named
+named-most name z f = let d = decimal-64 z f in simp length-append (omega arith)
+
+second-most : (t : ℕ) (u a b : Row) → t < 2 ^ 32 → Row32 u → Row32 a → Row32 b → length (secondText t u a b) ≤ lineRoom
+unfolding secondText
+second-most t u a b h f g k =
+    let count = count-most t h in
+    let unit = plant-most (code "U") u f in
+    let first = plant-most (code "A") a g in
+    let second = plant-most (code "B") b k in
+    simp length-append (omega arith)
+
+sum-most : (s : Sums) → Sums64 s → length (sumText s) ≤ lineRoom
+unfolding sumText
+sum-most s f =
+    let a = named-most (ascii "sum A ") (s .a .0) (f .a) in
+    let b = named-most (ascii " B ") (s .b .0) (f .b) in
+    let o = named-most (ascii " open ") (s .«open» .0) (f .«open») in
+    let d = named-most (ascii " due ") (s .due .0) (f .due) in
+    simp length-append (omega arith)
+
+refusal-most : (n t : ℕ) → n < 2 ^ 32 → t < 2 ^ 32 → length (refusalText n t) ≤ lineRoom
+unfolding refusalText
+refusal-most n t h k =
+    let number = count-most n h in
+    let count = count-most t k in
+    simp length-append (omega arith)
+
+row-most : (t letter : ℕ) (x : Row) → t < 2 ^ 32 → Row32 x → length (rowText t letter x) ≤ rowRoom
+unfolding rowText
+row-most t letter x h f =
+    let count = count-most t h in
+    let fcr = kind-most (x .fcr) (f .fcr) in
+    let afrr = kind-most (x .afrr) (f .afrr) in
+    let mfrr = kind-most (x .mfrr) (f .mfrr) in
+    let rest = field-most (x .«open» .0) (f .«open») in
+    simp length-append (omega arith)
+
+pub lengths : Lengths
+lengths = record { second = second-most; sums = sum-most; refusal = refusal-most; row = row-most }
+
+pub examples : Examples
+unfolding secondText plantText sumText named refusalText rowText kindText field decimal digits digitsIn
+examples =
+    record {
+      full-second = refl;
+      full-sum = refl;
+      refused = refl;
+      every-figure = refl;
+      least-32 = ap (λ (l : List ℕ). ascii "-" ++ l) (digits-by 9 2147483648 (lit< tt));
+      least-64 = ap (λ (l : List ℕ). ascii "-" ++ l) (digits-by 18 9223372036854775808 (lit< tt));
+    }

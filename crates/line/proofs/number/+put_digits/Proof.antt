@@ -1,0 +1,73 @@
+-- The proof of the cycle of calls {put_digits}: the measure is the number. One digit is put, or those of a tenth of it and one more.
+-- Assumes nothing.
+use mathlib.Core.Path.{ap}
+use native.Mathlib.Omega.{arith}
+use lib.ListN.{length, length-append}
+use borrow.Author.Needs.{needs}
+use Rattle.line.proofs.Puts.{both}
+use Rattle.line.proofs.Digits.{digits-one, digits-more, digits-longer}
+use Prim.Native.Nat.{ℕ, _<_}
+use borrow.Fn.Kinds.{In}
+use borrow.Fn.PlainCycle.{Measures, is, falls, and}
+use Rattle.line.proofs.number.put_digits.Reads as put-digits
+use Rattle.line.proofs.number.put_digits.Kinds as put-digits-kinds
+use Rattle.line.proofs.number.+put_digits.Lts-put_digits as lts
+use Rattle.line.proofs.number.glyph.Reads as glyph-reads
+use Rattle.line.proofs.put.put_byte.Reads as put-byte-reads
+use Rattle.line.proofs.number.+put_digits.{statement}
+use Rattle.line.proofs.number.+put_digits.Tie.{close}
+
+abbrev μ-put-digits : Measures 1 put-digits-kinds.ps ℕ
+μ-put-digits κs a = a .1 .1 .0
+
+module _ (t : ℕ) where
+  abbrev pre : In 1 put-digits-kinds.ps
+  pre = and 1 put-digits-kinds.ps (is 1 put-digits-kinds.ps μ-put-digits t) put-digits.Pre
+
+  abbrev calls : lts.Claims
+  calls =
+      (glyph-reads.Asked,
+      glyph-reads.Learnt,
+      put-byte-reads.Asked,
+      put-byte-reads.Learnt,
+      and 1 put-digits-kinds.ps (falls 1 put-digits-kinds.ps _<_ μ-put-digits t) put-digits.Pre,
+      put-digits.Post)
+
+  glyph-requires : lts.Need-glyph-requires calls pre put-digits.Post
+  glyph-requires c κs = omega arith
+
+  put-byte-requires : lts.Need-put-byte-requires calls pre put-digits.Post
+  put-byte-requires c κs = omega (arith, ap length (digits-one _ (c .before .before .if1 .taken)))
+
+  same-length : lts.Need-same-length calls pre put-digits.Post
+  same-length c = search needs
+
+  returns : lts.Need-returns calls pre put-digits.Post
+  returns c =
+      let h = c .before .before .before .before .before .if1 .taken in
+      let d = c .before .before .before .glyph .ensures in
+      rw (digits-one _ h, ← d) (c .before .before .put-byte .ensures)
+
+  put-digits-requires : lts.Need-put-digits-requires calls pre put-digits.Post
+  put-digits-requires c κs = (omega (arith, c .before .before .before .pre .0), omega (arith, digits-longer _ (c .before .if1 .left)))
+
+  glyph-requires-2 : lts.Need-glyph-requires-2 calls pre put-digits.Post
+  glyph-requires-2 c κs = omega arith
+
+  put-byte-requires-2 : lts.Need-put-byte-requires-2 calls pre put-digits.Post
+  put-byte-requires-2 c κs = omega (arith, digits-longer _ (c .before .before .before .before .before .before .if1 .left))
+
+  same-length-2 : lts.Need-same-length-2 calls pre put-digits.Post
+  same-length-2 c = search needs
+
+  returns-2 : lts.Need-returns-2 calls pre put-digits.Post
+  returns-2 c =
+      let h = c .before .before .before .before .before .before .before .before .before .if1 .left in
+      let d = c .before .before .before .glyph2 .ensures in
+      rw (digits-more _ h, length-append, ← d) (both (c .before .before .before .before .before .before .before .put-digits .ensures) (c .before .before .put-byte2 .ensures))
+
+  closed : {M : Type 1} → lts.Closed calls pre put-digits.Post M
+  closed = lts.spec calls pre put-digits.Post glyph-requires put-byte-requires same-length returns put-digits-requires glyph-requires-2 put-byte-requires-2 same-length-2 returns-2
+
+pub +put-digits-spec : {M : Type 1} → statement M
++put-digits-spec = close μ-put-digits λ t. closed t

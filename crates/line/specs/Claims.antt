@@ -1,0 +1,61 @@
+-- What holds of every line, and document 01's example. The proofs are `lengths` and `examples` of proofs/Claims.antt.
+use mathlib.Core.Path.{_≡_}
+use Prim.Native.Nat.{ℕ, _^_, _≤_, _<_}
+use Prim.Native.Char.{code}
+use lib.ListN.{length}
+use lib.IntN.{ℤ, pos, negsuc}
+use mir.Syntax.{w32, w64}
+use mir.Val.{SFits}
+use Rattle.power.specs.Units.{kw}
+use Rattle.row.specs.declared.KindRow.{KindRow}
+use Rattle.row.specs.declared.Row.{Row}
+use Rattle.line.specs.declared.sums.Sums.{Sums}
+use Rattle.line.specs.Text.{ascii, decimal}
+use Rattle.line.specs.Widths.{lineRoom, rowRoom}
+use Rattle.line.specs.Line.{secondText, sumText, refusalText, rowText}
+
+-- "A row's figures are signed 32-bit numbers and the four sums 64-bit ones"
+pub record Kind32 (k : KindRow) : Type 0 where
+  pub setpoint : SFits w32 (k .setpoint .0)
+  pub low : SFits w32 (k .band .low .0)
+  pub high : SFits w32 (k .band .high .0)
+  pub share : SFits w32 (k .share .0)
+  pub actual : SFits w32 (k .actual .0)
+
+pub record Row32 (x : Row) : Type 0 where
+  pub fcr : Kind32 (x .fcr)
+  pub afrr : Kind32 (x .afrr)
+  pub mfrr : Kind32 (x .mfrr)
+  pub «open» : SFits w32 (x .«open» .0)
+
+pub record Sums64 (s : Sums) : Type 0 where
+  pub a : SFits w64 (s .a .0)
+  pub b : SFits w64 (s .b .0)
+  pub «open» : SFits w64 (s .«open» .0)
+  pub due : SFits w64 (s .due .0)
+
+-- "so 200 bytes always suffice", and 256 for the line with every figure
+pub record Lengths : Type 0 where
+  pub second : (t : ℕ) (u a b : Row) → t < 2 ^ 32 → Row32 u → Row32 a → Row32 b → length (secondText t u a b) ≤ lineRoom
+  pub sums : (s : Sums) → Sums64 s → length (sumText s) ≤ lineRoom
+  pub refusal : (n t : ℕ) → n < 2 ^ 32 → t < 2 ^ 32 → length (refusalText n t) ≤ lineRoom
+  pub row : (t letter : ℕ) (x : Row) → t < 2 ^ 32 → Row32 x → length (rowText t letter x) ≤ rowRoom
+
+abbrev pub kind : ℤ → ℤ → ℤ → ℤ → ℤ → KindRow
+kind setpoint low high share actual = record { setpoint = kw setpoint; band = record { low = kw low; high = kw high }; share = kw share; actual = kw actual }
+
+-- a row by its actual values alone
+abbrev pub actuals : ℤ → ℤ → ℤ → ℤ → Row
+actuals f a m o = record { fcr = kind (pos 0) (pos 0) (pos 0) (pos 0) f; afrr = kind (pos 0) (pos 0) (pos 0) (pos 0) a; mfrr = kind (pos 0) (pos 0) (pos 0) (pos 0) m; «open» = kw o }
+
+abbrev pub sums : ℤ → ℤ → ℤ → ℤ → Sums
+sums a b o d = record { a = record { 0 = a }; b = record { 0 = b }; «open» = record { 0 = o }; due = record { 0 = d } }
+
+-- the full case's two lines, a refusal, the order of a row's figures, and the least numbers
+pub record Examples : Type 0 where
+  pub full-second : secondText 0 (actuals (negsuc 78) (pos 10) (pos 0) (pos 0)) (actuals (negsuc 78) (pos 0) (pos 0) (pos 0)) (actuals (pos 0) (pos 30) (pos 0) (pos 0)) ≡ ascii "0 U -79 10 0 0 A -79 0 0 0 B 0 30 0 0\n"
+  pub full-sum : sumText (sums (negsuc 78) (pos 30) (pos 0) (negsuc 48)) ≡ ascii "sum A -79 B 30 open 0 due -49\n"
+  pub refused : refusalText 12 89999 ≡ ascii "refused 12 at 89999\n"
+  pub every-figure : rowText 7 (code "U") (record { fcr = kind (pos 1) (pos 2) (pos 3) (pos 4) (pos 5); afrr = kind (pos 6) (pos 7) (pos 8) (pos 9) (pos 10); mfrr = kind (pos 11) (pos 12) (pos 13) (pos 14) (pos 15); «open» = kw (negsuc 15) }) ≡ ascii "7 U 1 2 3 4 5 6 7 8 9 10 11 12 13 14 15 -16\n"
+  pub least-32 : decimal (negsuc 2147483647) ≡ ascii "-2147483648"
+  pub least-64 : decimal (negsuc 9223372036854775807) ≡ ascii "-9223372036854775808"
