@@ -12,7 +12,7 @@ use Rattle.power.specs.declared.limits.Limits.{Limits}
 use Rattle.mfrr.specs.declared.leftovers.Leftover as state
 use Rattle.mfrr.specs.Signal.{Second, quiet, call, History, Phase, signal, phaseAt, isResting}
 use Rattle.mfrr.specs.Leftovers.{Leftover, leftoverOf, ended, leftovers, counting}
-use Rattle.mfrr.specs.Refusals.{mostLeftovers, refusal, Accepted}
+use Rattle.mfrr.specs.Refusals.{mostLeftovers, rulesAt, refusal, Accepted}
 use Rattle.mfrr.specs.State.{leftoverFrom, unused, put, freeAt, placed, places, stateOf, older, held, isFree}
 use Rattle.mfrr.proofs.Rules.{passed}
 
@@ -66,7 +66,7 @@ places-length (call e D ∷ h) = go (isResting (phaseAt (signal h) (length h))) 
 
 -- from the second of the latest put on
 pub held-all : (h : History) → Accepted h → (t : ℕ) → length h ≤ t + 1 → counting t (places h) ≡ counting t (leftovers h)
-unfolding places placed leftovers ended counting Accepted refusal
+unfolding places placed leftovers ended counting Accepted refusal rulesAt
 held-all [] a t k = unused-none t mostLeftovers
 held-all (quiet ∷ h) a t k = held-all h (a .1) t (omega arith)
 held-all (call e D ∷ h) a t k =

@@ -15,7 +15,7 @@ use Rattle.mfrr.specs.declared.signal.Phase.the-variants.{RampingUp}
 use Rattle.mfrr.specs.Signal.{quarterHour, Second, quiet, call, History, Signal, none, runs, Phase, signal, phaseAt, phaseNow, valueAt, setpointAt, isResting}
 use Rattle.mfrr.specs.Band.{limitsOf}
 use Rattle.mfrr.specs.Leftovers.{leftoverOf, leftovers, counting, limitsAt, bandAt}
-use Rattle.mfrr.specs.Refusals.{refusal, Accepted}
+use Rattle.mfrr.specs.Refusals.{rulesAt, refusal, Accepted}
 use Rattle.mfrr.specs.State.{valueIn, laterIn, older, phaseFrom, leftoverFrom, put, freeAt, placed, places, stateOf, Ready, restingIn, leftoverIn, isFree, placedIn, held, numberOf, refusalIn, calledIn, takenIn, limitsNow, acceptedIn, stepBy, stepIn, stepOf}
 use Rattle.mfrr.proofs.Rules.{passed}
 use Rattle.mfrr.proofs.Phases.{is-up, resting-from, value-from, limits-from, Begun, leftover-from, later-from}
@@ -29,7 +29,7 @@ later-begun none t g = tt
 later-begun (runs b e j D) t g = (omega (arith, g .0), g .1)
 
 called-begun : (h : History) (e : ℤ) (D : ℕ) → refusal h (call e D) ≡ 0 → length h + quarterHour ≤ D
-unfolding refusal
+unfolding refusal rulesAt
 called-begun h e D z = passed _ _ (length h) e D z .end .least
 
 begun : (h : History) → Accepted h → Begun (signal h) (length h)
@@ -50,7 +50,7 @@ unfolding stateOf
 rests h = resting-from (length h) (phaseAt (signal h) (length h))
 
 pub same-number : (h : History) → Accepted h → (x : Second) → refusalIn (stateOf h) (length h) x ≡ refusal h x
-unfolding refusalIn refusal numberOf
+unfolding refusalIn refusal rulesAt numberOf
 same-number h a quiet = refl
 same-number h a (call e D) = rw (holds h a, rests h)
 

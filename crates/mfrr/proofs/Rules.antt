@@ -10,7 +10,7 @@ use lib.Signed.{ltZ}
 use Rattle.numbers.specs.Bounds.{Within}
 use Rattle.numbers.proofs.Parts.{between}
 use Rattle.numbers.proofs.Test.{or-false, flags}
-use Rattle.mfrr.specs.Rules.{first}
+use Rattle.numbers.specs.Rules.{first}
 use Rattle.mfrr.specs.Signal.{quarterHour, mostPower}
 use Rattle.mfrr.specs.Refusals.{longestCall, mostLeftovers, targetOut, endOut, ninth, callRules}
 

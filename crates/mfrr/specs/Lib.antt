@@ -1,7 +1,6 @@
 pub mod Signal
 pub mod Band
 pub mod Leftovers
-pub mod Rules
 pub mod Refusals
 pub mod State
 pub mod Claims

@@ -7,7 +7,7 @@ use lib.Dec.{leb, ltb, eqb}
 use lib.IntN.{ℤ, pos, negℤ}
 use lib.ListN.{length}
 use lib.Signed.{ltZ}
-use Rattle.mfrr.specs.Rules.{Rule, refuse, first}
+use Rattle.numbers.specs.Rules.{Rule, refuse, first}
 use Rattle.mfrr.specs.Signal.{quarterHour, mostPower, Second, quiet, call, History, signal, phaseAt, isResting}
 use Rattle.mfrr.specs.Leftovers.{leftovers, counting}
 
@@ -43,17 +43,20 @@ callRules rests counted t e D =
     ∷ refuse 10 (ninth rests counted)
     ∷ []
 
--- the number for second x after the past h; 0 where it is accepted
-unfoldable pub refusal : History → Second → ℕ
-refusal h quiet = 0
-refusal h (call e D) =
-    first
-    (callRules
+-- the rules for second x after the past h; without a call there are none
+unfoldable pub rulesAt : History → Second → List Rule
+rulesAt h quiet = []
+rulesAt h (call e D) =
+    callRules
     (isResting (phaseAt (signal h) (length h)))
     (length (counting (length h) (leftovers h)))
     (length h)
     e
-    D)
+    D
+
+-- its number; 0 where it is accepted
+unfoldable pub refusal : History → Second → ℕ
+refusal h x = first (rulesAt h x)
 
 -- every second of a history was accepted after those before it
 unfoldable pub Accepted : History → Type 0

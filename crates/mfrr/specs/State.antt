@@ -24,7 +24,7 @@ use Rattle.mfrr.specs.Signal.{quarterHour, mostPower, Second, quiet, cal
 use Rattle.mfrr.specs.Band.{point, targetLimits, reaching, spanned}
 use Rattle.mfrr.specs.Leftovers as past-leftovers
 use Rattle.mfrr.specs.Leftovers.{leftoverOf, bandAt}
-use Rattle.mfrr.specs.Rules.{first}
+use Rattle.numbers.specs.Rules.{first}
 use Rattle.mfrr.specs.Refusals.{mostSeconds, longestCall, mostLeftovers, callRules, refusal}
 
 -- ---- what the state holds after a past
