@@ -8,3 +8,4 @@ pub mod Three
 pub mod Signs
 pub mod Rows
 pub mod Sizes
+pub mod Answer

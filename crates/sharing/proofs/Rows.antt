@@ -163,11 +163,11 @@ none-sum b (k ∷ ks) (x ∷ xs) q =
     rw (o .0) (+ℤ-idl (sumActuals (rowsBy b ks xs)) ∙ none-sum b ks xs (o .1))
 
 module _ (d : ℤ) (ks : List Kind) where
-  open-none : someOn ks ≡ true → openOf d ks ≡ pos 0
+  pub open-none : someOn ks ≡ true → openOf d ks ≡ pos 0
   unfolding openOf
   open-none q = rw q
 
-  open-all : someOn ks ≡ false → openOf d ks ≡ d
+  pub open-all : someOn ks ≡ false → openOf d ks ≡ d
   unfolding openOf
   open-all q = rw q
 

@@ -16,25 +16,27 @@ use Rattle.sharing.specs.Sizes.{mostSetpoint, SizedKind, SizedKinds, Siz
 use Rattle.sharing.proofs.Shared.{shared, sum-le}
 use Rattle.sharing.proofs.Rows.{signed-size}
 
-pub setpoint-on : (k : Kind) → SizedKind k → Within mostSetpoint (setpointOn k)
+setpoint-on : (k : Kind) → SizedKind k → Within mostSetpoint (setpointOn k)
 setpoint-on k s = within-cond mostSetpoint (k .on) (k .setpoint .0) (pos 0) (s .setpoint) (within-lit mostSetpoint (pos 0) tt)
 
-less : (A B C : ℕ) (d s : ℤ) → A + B ≤ C → Within A d → Within B s → Within C (d -ℤ s)
+pub less : (A B C : ℕ) (d s : ℤ) → A + B ≤ C → Within A d → Within B s → Within C (d -ℤ s)
 less A B C d s h p q = nat-within (omega (arith, sub-nat d s, within-nat p, within-nat q))
 
-more : (A B C : ℕ) (d s : ℤ) → A + B ≤ C → Within A d → Within B s → Within C (d +ℤ s)
+pub more : (A B C : ℕ) (d s : ℤ) → A + B ≤ C → Within A d → Within B s → Within C (d +ℤ s)
 more A B C d s h p q = nat-within (omega (arith, add-nat d s, within-nat p, within-nat q))
 
+-- the error, kind by kind
 module _ (D : ℕ) (d : ℤ) (a b c : Kind) (w : Within D d) (s : SizedKinds a b c) where
-  pub error-within : Within (D + 3 * mostSetpoint) (errorOf d (three a b c))
-  error-within =
-      less (D + 2 * mostSetpoint) mostSetpoint _ _ _ (omega arith)
-      (less (D + mostSetpoint) mostSetpoint _ _ _ (omega arith)
-      (less D mostSetpoint _ _ _ (omega arith) w (setpoint-on a (s .fcr)))
-      (setpoint-on b (s .afrr)))
-      (setpoint-on c (s .mfrr))
+  pub past-fcr : Within (D + mostSetpoint) (errorOf d (a ∷ []))
+  past-fcr = less D mostSetpoint _ _ _ (omega arith) w (setpoint-on a (s .fcr))
 
-signed-within : (B : ℕ) (t : Bool) (x : ℕ) → x ≤ B → Within B (signed t x)
+  pub past-afrr : Within (D + 2 * mostSetpoint) (errorOf d (a ∷ b ∷ []))
+  past-afrr = less (D + mostSetpoint) mostSetpoint _ _ _ (omega arith) past-fcr (setpoint-on b (s .afrr))
+
+  pub error-within : Within (D + 3 * mostSetpoint) (errorOf d (three a b c))
+  error-within = less (D + 2 * mostSetpoint) mostSetpoint _ _ _ (omega arith) past-afrr (setpoint-on c (s .mfrr))
+
+pub signed-within : (B : ℕ) (t : Bool) (x : ℕ) → x ≤ B → Within B (signed t x)
 signed-within B t x h = record { within = rw (signed-size t x) h }
 
 kind-sized : (D : ℕ) (t : Bool) (k : Kind) (x : ℕ) → SizedKind k → x ≤ D + 3 * mostSetpoint → SizedKindRow D (kindRow t k x)

@@ -4,7 +4,7 @@ use power::Band;
 use power::Kw;
 use row::KindRow;
 ghost use mathlib.Core.Path.{_≡_};
-ghost use lib.IntN.{pos, natAbs, _+ℤ_};
+ghost use lib.IntN.{pos, natAbs, _+ℤ_, _-ℤ_};
 ghost use mir.Syntax.{w32};
 ghost use mir.Val.{SFits};
 ghost use Rattle.row.specs.Row.{offRow};
@@ -56,11 +56,16 @@ fn off_row() -> KindRow
 }
 
 impl Kind {
-    // The setpoint, where the kind is on.
-    pub(crate) fn setpoint_on(self) -> Kw
-        ensures { λ r. ⌜ r .0 ≡ setpointOn self ⌝ }
+    // A power less the setpoint, where the kind is on.
+    pub(crate) fn less_setpoint(self, power: Kw) -> Kw
+        requires { ⌜ SFits w32 (power .0 -ℤ setpointOn self) ⌝ }
+        ensures { λ r. ⌜ r .0 ≡ power .0 -ℤ setpointOn self ⌝ }
     {
-        if self.on { self.setpoint } else { Kw(0) }
+        if self.on {
+            power.minus(self.setpoint)
+        } else {
+            power
+        }
     }
 
     // From the setpoint to the published limit in the error's direction.
