@@ -19,9 +19,9 @@ use Rattle.mfrr.specs.declared.MfrrStep.{MfrrStep}
 use Rattle.mfrr.specs.declared.MfrrAnswer.{MfrrAnswer}
 use Rattle.mfrr.specs.declared.MfrrAnswer.the-variants.{Given, Refused}
 use Rattle.mfrr.specs.Signal.{Second, quiet, call, History, setpointAt}
-use Rattle.mfrr.specs.Leftovers.{bandAt}
+use Rattle.mfrr.specs.Band.{bandAt}
 use Rattle.mfrr.specs.Refusals.{refusal, Accepted}
-use Rattle.mfrr.specs.State.{stateOf, Ready, mostLimit, valueIn, limitsIn, restingIn, held, numberOf, refusalIn, calledIn, takenIn, limitsNow, acceptedIn, stepBy, stepIn, stepOf, GivenRange, Stepped}
+use Rattle.mfrr.specs.State.{stateOf, Ready, limitMost, valueIn, limitsIn, restingIn, held, numberOf, refusalIn, calledIn, takenIn, limitsNow, acceptedIn, stepBy, stepIn, stepOf, GivenRange, Stepped}
 use Rattle.mfrr.proofs.Rules.{Passed, passed}
 use Rattle.mfrr.proofs.Ready.{fresh, called-ready, setpoint-within, now-ready, next-ready}
 use Rattle.mfrr.proofs.Inside.{inside}
@@ -36,12 +36,11 @@ given-range s r =
     record {
       setpoint-range = setpoint-within s r;
       contains = published-contains (limitsNow s) _ (inside _ (limitsIn (s .phase)) (held (s .leftovers)));
-      low-range = lower-within mostLimit _ (l .lower-range);
-      high-range = upper-within mostLimit _ (l .upper-range);
+      small = (lower-within limitMost _ (l .lower-range), upper-within limitMost _ (l .upper-range));
     }
 
 pub published-fits : (s : MfrrState) → Ready s → SFits w32 (publishedOf (limitsNow s) .low .0) × SFits w32 (publishedOf (limitsNow s) .high .0)
-published-fits s r = let g = given-range s r in (search fit, search fit)
+published-fits s r = let g = given-range s r .small in (search fit, search fit)
 
 answer-range : (s : MfrrState) → Ready s → {v : Kw} {b : Band} → acceptedIn s .answer ≡ Given v b → GivenRange v b
 unfolding acceptedIn

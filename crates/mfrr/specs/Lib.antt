@@ -1,6 +1,7 @@
 pub mod Signal
-pub mod Band
+pub mod Limits
 pub mod Leftovers
+pub mod Band
 pub mod Rules
 pub mod Refusals
 pub mod State
