@@ -135,7 +135,7 @@ module _ (t : ℕ) where
       go false k = k
 
   pub older-from : (ps : List Leftover) → map older (map (leftoverFrom t) ps) ≡ map (leftoverFrom (t + 1)) ps
-  unfolding older leftoverFrom
+  unfolding leftoverFrom
   older-from [] = refl
   older-from (p ∷ ps) =
       let m : p .free - t - 1 ≡ p .free - (t + 1) = omega arith in

@@ -144,3 +144,24 @@ follows h a x = rw (same-number h a x) (go (refusal h x) refl)
         ≡ stepBy n (stateOf h) (record { answer = Given (kw (setpointAt h x)) (bandAt h x); state = stateOf (x ∷ h) })
     go zero z = accepted h x (z, a)
     go (suc n) z = refl
+
+-- ---- its two cases
+
+pub when-accepted :
+    (h : History) (x : Second) →
+    refusal h x ≡ 0 →
+    stepOf h x ≡ record { answer = Given (kw (setpointAt h x)) (bandAt h x); state = stateOf (x ∷ h) }
+unfolding stepOf stepBy
+when-accepted h x z = rw z
+
+pub when-refused : (h : History) (x : Second) → (refusal h x ≡ 0 → ⊥) → stepOf h x ≡ record { answer = Refused (refusal h x); state = stateOf h }
+unfolding stepOf stepBy
+when-refused h x n = go (refusal h x) n
+  where
+    go :
+        (m : ℕ) →
+        (m ≡ 0 → ⊥) →
+        stepBy m (stateOf h) (record { answer = Given (kw (setpointAt h x)) (bandAt h x); state = stateOf (x ∷ h) })
+        ≡ record { answer = Refused m; state = stateOf h }
+    go zero k = absurd (k refl)
+    go (suc m) k = refl

@@ -83,7 +83,6 @@ put-ready x (p ∷ ps) r rs = (r, go (isFree p) (put-ready p ps (rs .0) (rs .1))
     go false n = n
 
 older-ready : (ps : List Leftover) → EachReady ps → EachReady (map older ps)
-unfolding older
 older-ready [] rs = tt
 older-ready (p ∷ ps) rs = (rs .0, older-ready ps (rs .1))
 

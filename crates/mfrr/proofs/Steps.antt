@@ -62,6 +62,10 @@ module _ (s : MfrrState) (t : ℕ) (ok : Ready s) where
   taken-ready (call e D) z = let p = call-passed (kw e) D z in called-ready s ok t (kw e) D (p .target) (p .end .most)
 
   module _ (x : Second) where
+    never : {r : MfrrStep} {n : ℕ} → r ≡ acceptedIn (takenIn s t x) → r .answer ≡ Refused n → ⊥
+    unfolding acceptedIn
+    never e k = let z : _≡_ {A = ℕ} 0 1 = cc in omega arith
+
     pub taken-in : {r : MfrrStep} → refusalIn s t x ≡ 0 → r ≡ acceptedIn (takenIn s t x) → Stepped s t x r
     unfolding stepIn stepBy acceptedIn
     taken-in z e =
@@ -69,6 +73,7 @@ module _ (s : MfrrState) (t : ℕ) (ok : Ready s) where
           is = rw (e, z);
           number = rw (e, z);
           given = λ k. answer-range (takenIn s t x) (taken-ready x z) (sym (ap (λ (r : MfrrStep). r .answer) e) ∙ k);
+          refused = λ k. absurd (never e k);
           ready = rw e (next-ready (takenIn s t x) (taken-ready x z));
         }
 
@@ -83,6 +88,7 @@ module _ (s : MfrrState) (t : ℕ) (ok : Ready s) where
           is = by-number m e n;
           number = e;
           given = λ k. let z : _≡_ {A = ℕ} 0 1 = cc in absurd (omega arith);
+          refused = λ {n = k} p q. let z : m ≡ k = cc in n (z ∙ q);
           ready = ok;
         }
 

@@ -135,7 +135,7 @@ laterIn (RampingUp b e since left) =
 laterIn (Delivering e left) = afterDelivery e left
 laterIn (RampingDown e since) = cond (ltb since quarterHour) (RampingDown e (since + 1)) Resting
 
-unfoldable pub older : Leftover → Leftover
+abbrev pub older : Leftover → Leftover
 older x = record { limits = x .limits; left = x .left - 1 }
 
 -- the limits of the leftovers that count
@@ -210,7 +210,8 @@ pub record GivenRange (s : Kw) (b : Band) : Type 0 where
 
 pub record Stepped (s : MfrrState) (t : ℕ) (x : Second) (r : MfrrStep) : Type 0 where
   pub is : r ≡ stepIn s t x
-  -- of any state: what callers need to go on
+  -- what callers need to go on
   pub number : numberIn (r .answer) ≡ refusalIn s t x
   pub given : {v : Kw} {b : Band} → r .answer ≡ Given v b → GivenRange v b
+  pub refused : {n : ℕ} → r .answer ≡ Refused n → n ≡ 0 → ⊥
   pub ready : Ready (r .state)

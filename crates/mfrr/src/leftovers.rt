@@ -76,10 +76,8 @@ impl Leftover {
         ensures { λ r. ⌜ r ≡ older self ⌝ }
     {
         let limits = self.limits;
-        Leftover {
-            limits,
-            left: one_less(self.left),
-        }
+        let left = one_less(self.left);
+        Leftover { limits, left }
     }
 }
 
