@@ -12,7 +12,7 @@ use Rattle.power.specs.declared.limits.Limits.{Limits}
 use Rattle.mfrr.specs.declared.leftovers.Leftover as state
 use Rattle.mfrr.specs.Signal.{Second, quiet, call, History, Phase, signal, phaseAt, isResting}
 use Rattle.mfrr.specs.Leftovers.{Leftover, leftoverOf, ended, leftovers, counting}
-use Rattle.mfrr.specs.Refusals.{mostLeftovers, rulesAt, refusal, Accepted}
+use Rattle.mfrr.specs.Refusals.{leftoversMost, rulesAt, refusal, Accepted}
 use Rattle.mfrr.specs.State.{leftoverFrom, unused, put, freeAt, placed, places, stateOf, older, held, isFree}
 use Rattle.mfrr.proofs.Rules.{passed}
 
@@ -47,6 +47,15 @@ put-counting t u x (p ∷ ps) h f = ap (λ (l : List Limits). cond (ltb u (x .fr
         let c : length (counting t (p ∷ ps)) ≡ suc (length (counting t ps)) = rw (lt-ltb t (p .free) (leb-false (p .free) t e)) in
         k (omega arith)
 
+pub counting-length : (t : ℕ) (xs : List Leftover) → length (counting t xs) ≤ length xs
+unfolding counting
+counting-length t [] = omega arith
+counting-length t (x ∷ xs) = go (ltb t (x .free)) (counting-length t xs)
+  where
+    go : (b : Bool) → length (counting t xs) ≤ length xs → length (cond b (x .limits ∷ counting t xs) (counting t xs)) ≤ suc (length xs)
+    go true k = omega arith
+    go false k = omega arith
+
 -- ---- the places after a history
 
 unused-none : (t n : ℕ) → counting t (replicate n unused) ≡ []
@@ -54,20 +63,20 @@ unfolding counting
 unused-none t zero = refl
 unused-none t (suc n) = rw (le-ltb t 0 (omega arith)) (unused-none t n)
 
-pub places-length : (h : History) → length (places h) ≡ mostLeftovers
+pub places-length : (h : History) → length (places h) ≡ leftoversMost
 unfolding places placed
-places-length [] = length-replicate mostLeftovers unused
+places-length [] = length-replicate leftoversMost unused
 places-length (quiet ∷ h) = places-length h
 places-length (call e D ∷ h) = go (isResting (phaseAt (signal h) (length h))) (places-length h)
   where
-    go : (b : Bool) → length (places h) ≡ mostLeftovers → length (cond b (places h) (put (freeAt (length h)) (leftoverOf (phaseAt (signal h) (length h))) (places h))) ≡ mostLeftovers
+    go : (b : Bool) → length (places h) ≡ leftoversMost → length (cond b (places h) (put (freeAt (length h)) (leftoverOf (phaseAt (signal h) (length h))) (places h))) ≡ leftoversMost
     go true q = q
     go false q = put-length _ _ (places h) ∙ q
 
 -- from the second of the latest put on
 pub held-all : (h : History) → Accepted h → (t : ℕ) → length h ≤ t + 1 → counting t (places h) ≡ counting t (leftovers h)
 unfolding places placed leftovers ended counting Accepted refusal rulesAt
-held-all [] a t k = unused-none t mostLeftovers
+held-all [] a t k = unused-none t leftoversMost
 held-all (quiet ∷ h) a t k = held-all h (a .1) t (omega arith)
 held-all (call e D ∷ h) a t k =
     go (isResting p) refl (held-all h (a .1) t (omega arith)) (held-all h (a .1) (length h) (omega arith))
@@ -126,7 +135,7 @@ module _ (t : ℕ) where
       go false k = k
 
   pub older-from : (ps : List Leftover) → map older (map (leftoverFrom t) ps) ≡ map (leftoverFrom (t + 1)) ps
-  unfolding older leftoverFrom
+  unfolding leftoverFrom
   older-from [] = refl
   older-from (p ∷ ps) =
       let m : p .free - t - 1 ≡ p .free - (t + 1) = omega arith in
@@ -136,6 +145,6 @@ pub holds : (h : History) → Accepted h → held (stateOf h .leftovers) ≡ cou
 unfolding stateOf
 holds h a = held-from (length h) (places h) ∙ held-all h a (length h) (omega arith)
 
-pub eight : (h : History) → length (stateOf h .leftovers) ≡ mostLeftovers
+pub eight : (h : History) → length (stateOf h .leftovers) ≡ leftoversMost
 unfolding stateOf
 eight h = length-map (places h) (leftoverFrom (length h)) ∙ places-length h

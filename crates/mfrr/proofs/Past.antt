@@ -13,8 +13,9 @@ use Rattle.mfrr.specs.declared.MfrrStep.{MfrrStep}
 use Rattle.mfrr.specs.declared.MfrrAnswer.the-variants.{Given, Refused}
 use Rattle.mfrr.specs.declared.signal.Phase.the-variants.{RampingUp}
 use Rattle.mfrr.specs.Signal.{quarterHour, Second, quiet, call, History, Signal, none, runs, Phase, signal, phaseAt, phaseNow, valueAt, setpointAt, isResting}
-use Rattle.mfrr.specs.Band.{limitsOf}
-use Rattle.mfrr.specs.Leftovers.{leftoverOf, leftovers, counting, limitsAt, bandAt}
+use Rattle.mfrr.specs.Limits.{limitsOf}
+use Rattle.mfrr.specs.Leftovers.{leftoverOf, leftovers, counting}
+use Rattle.mfrr.specs.Band.{limitsAt, bandAt}
 use Rattle.mfrr.specs.Refusals.{rulesAt, refusal, Accepted}
 use Rattle.mfrr.specs.State.{valueIn, laterIn, older, phaseFrom, leftoverFrom, put, freeAt, placed, places, stateOf, Ready, restingIn, leftoverIn, isFree, placedIn, held, numberOf, refusalIn, calledIn, takenIn, limitsNow, acceptedIn, stepBy, stepIn, stepOf}
 use Rattle.mfrr.proofs.Rules.{passed}
@@ -132,9 +133,9 @@ pub accepted :
 unfolding Accepted
 accepted h x a = rw (same-taken h (a .1) x) (given h x a)
 
-pub step : (h : History) → Accepted h → (x : Second) → stepIn (stateOf h) (length h) x ≡ stepOf h x
+pub follows : (h : History) → Accepted h → (x : Second) → stepIn (stateOf h) (length h) x ≡ stepOf h x
 unfolding stepIn stepOf stepBy Accepted
-step h a x = rw (same-number h a x) (go (refusal h x) refl)
+follows h a x = rw (same-number h a x) (go (refusal h x) refl)
   where
     go :
         (n : ℕ) →
@@ -143,3 +144,24 @@ step h a x = rw (same-number h a x) (go (refusal h x) refl)
         ≡ stepBy n (stateOf h) (record { answer = Given (kw (setpointAt h x)) (bandAt h x); state = stateOf (x ∷ h) })
     go zero z = accepted h x (z, a)
     go (suc n) z = refl
+
+-- ---- its two cases
+
+pub when-accepted :
+    (h : History) (x : Second) →
+    refusal h x ≡ 0 →
+    stepOf h x ≡ record { answer = Given (kw (setpointAt h x)) (bandAt h x); state = stateOf (x ∷ h) }
+unfolding stepOf stepBy
+when-accepted h x z = rw z
+
+pub when-refused : (h : History) (x : Second) → (refusal h x ≡ 0 → ⊥) → stepOf h x ≡ record { answer = Refused (refusal h x); state = stateOf h }
+unfolding stepOf stepBy
+when-refused h x n = go (refusal h x) n
+  where
+    go :
+        (m : ℕ) →
+        (m ≡ 0 → ⊥) →
+        stepBy m (stateOf h) (record { answer = Given (kw (setpointAt h x)) (bandAt h x); state = stateOf (x ∷ h) })
+        ≡ record { answer = Refused m; state = stateOf h }
+    go zero k = absurd (k refl)
+    go (suc m) k = refl

@@ -9,7 +9,7 @@ use lib.IntN.{ℤ}
 use Rattle.power.specs.Units.{kw}
 use Rattle.mfrr.specs.declared.signal.Phase.the-variants.{Resting, RampingUp, Delivering, RampingDown}
 use Rattle.mfrr.specs.Signal.{quarterHour, Signal, none, runs, Phase, resting, rampingUp, delivering, rampingDown, isResting, lastOf, through, phaseAt, valueOf}
-use Rattle.mfrr.specs.Band.{limitsOf}
+use Rattle.mfrr.specs.Limits.{limitsOf}
 use Rattle.mfrr.specs.Leftovers.{leftoverOf}
 use Rattle.mfrr.specs.State.{phaseFrom, leftoverFrom, restingIn, valueIn, limitsIn, secondsLeft, leftoverIn, afterDelivery, laterIn}
 

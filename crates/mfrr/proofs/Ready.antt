@@ -17,15 +17,16 @@ use Rattle.mfrr.specs.declared.MfrrState.{MfrrState}
 use Rattle.mfrr.specs.declared.leftovers.Leftover.{Leftover}
 use Rattle.mfrr.specs.declared.signal.Phase.{Phase}
 use Rattle.mfrr.specs.declared.signal.Phase.the-variants.{Resting, RampingUp, Delivering, RampingDown}
-use Rattle.mfrr.specs.Signal.{quarterHour, mostPower, signal, phaseAt}
-use Rattle.mfrr.specs.Band.{span, spanAll, point, targetLimits, reaching, spanned}
-use Rattle.mfrr.specs.Refusals.{longestCall, mostLeftovers}
+use Rattle.mfrr.specs.Signal.{quarterHour, powerMost, signal, phaseAt}
+use Rattle.mfrr.specs.Limits.{span, spanAll, point, targetLimits, reaching}
+use Rattle.mfrr.specs.Band.{spanned}
+use Rattle.mfrr.specs.Refusals.{longestCall, leftoversMost}
 use Rattle.mfrr.specs.State.{leftoverFrom, unused, places, phaseFrom, stateOf, PhaseReady, LimitsReady, EachReady, Ready, restingIn, valueIn, limitsIn, leftoverIn, afterDelivery, laterIn, older, held, isFree, put, placedIn, calledIn, limitsNow, acceptedIn}
 use Rattle.mfrr.proofs.Ramps.{up-within, down-within}
 
 -- ---- values and limits
 
-pub value-within : (p : Phase) → PhaseReady p → Within mostPower (valueIn p)
+pub value-within : (p : Phase) → PhaseReady p → Within powerMost (valueIn p)
 unfolding valueIn
 value-within Resting r = search fit
 value-within (RampingUp b e since left) r = up-within since (r .2) (b .0) (e .0) (r .0) (r .1)
@@ -36,16 +37,16 @@ span-ready : {a b : Limits} → LimitsReady a → LimitsReady b → LimitsReady 
 unfolding span
 span-ready ra rb = record { lower-range = search fit; upper-range = search fit }
 
-point-ready : {z : ℤ} → Within mostPower z → LimitsReady (point z)
+point-ready : {z : ℤ} → Within powerMost z → LimitsReady (point z)
 unfolding point
 point-ready w = record { lower-range = search fit; upper-range = search fit }
 
-target-ready : {e : ℤ} → Within mostPower e → LimitsReady (targetLimits e)
+target-ready : {e : ℤ} → Within powerMost e → LimitsReady (targetLimits e)
 unfolding targetLimits
 target-ready w =
     span-ready (point-ready w) (record { lower-range = search fit; upper-range = search fit })
 
-reaching-ready : {b e : ℤ} → Within mostPower b → Within mostPower e → LimitsReady (reaching b e)
+reaching-ready : {b e : ℤ} → Within powerMost b → Within powerMost e → LimitsReady (reaching b e)
 unfolding reaching
 reaching-ready v w = span-ready (point-ready v) (target-ready w)
 
@@ -82,13 +83,12 @@ put-ready x (p ∷ ps) r rs = (r, go (isFree p) (put-ready p ps (rs .0) (rs .1))
     go false n = n
 
 older-ready : (ps : List Leftover) → EachReady ps → EachReady (map older ps)
-unfolding older
 older-ready [] rs = tt
 older-ready (p ∷ ps) rs = (rs .0, older-ready ps (rs .1))
 
 -- ---- the next phase
 
-delivery-ready : (e : Kw) (left : ℕ) → Within mostPower (e .0) → left ≤ longestCall → PhaseReady (afterDelivery e left)
+delivery-ready : (e : Kw) (left : ℕ) → Within powerMost (e .0) → left ≤ longestCall → PhaseReady (afterDelivery e left)
 unfolding afterDelivery
 delivery-ready e left w h = go (eqb left 0)
   where
@@ -114,7 +114,7 @@ later-ready (RampingDown e since) r = go (ltb since quarterHour) refl
 -- ---- states
 
 module _ (s : MfrrState) (r : Ready s) where
-  pub called-ready : (t : ℕ) (e : Kw) (D : ℕ) → Within mostPower (e .0) → D ≤ t + longestCall → Ready (calledIn s t e D)
+  pub called-ready : (t : ℕ) (e : Kw) (D : ℕ) → Within powerMost (e .0) → D ≤ t + longestCall → Ready (calledIn s t e D)
   unfolding calledIn placedIn leftoverIn
   called-ready t e D w k =
       record {
@@ -126,7 +126,7 @@ module _ (s : MfrrState) (r : Ready s) where
       go true = r .each-ready
       go false = put-ready _ (s .leftovers) (limits-ready (s .phase) (r .phase-ready)) (r .each-ready)
 
-  pub setpoint-within : Within mostPower (valueIn (s .phase))
+  pub setpoint-within : Within powerMost (valueIn (s .phase))
   setpoint-within = value-within (s .phase) (r .phase-ready)
 
   pub now-ready : LimitsReady (limitsNow s)
@@ -148,4 +148,4 @@ unused-ready t (suc n) = (record { lower-range = search fit; upper-range = searc
 
 pub fresh : Ready (stateOf [])
 unfolding stateOf phaseFrom signal phaseAt places
-fresh = record { phase-ready = tt; each-ready = unused-ready 0 mostLeftovers }
+fresh = record { phase-ready = tt; each-ready = unused-ready 0 leftoversMost }

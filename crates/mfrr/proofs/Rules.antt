@@ -11,17 +11,17 @@ use Rattle.numbers.specs.Bounds.{Within}
 use Rattle.numbers.proofs.Parts.{between}
 use Rattle.numbers.proofs.Test.{or-false, flags}
 use Rattle.numbers.specs.Rules.{first}
-use Rattle.mfrr.specs.Signal.{quarterHour, mostPower}
-use Rattle.mfrr.specs.Refusals.{longestCall, mostLeftovers, targetOut, endOut, ninth, callRules}
+use Rattle.mfrr.specs.Signal.{quarterHour, powerMost}
+use Rattle.mfrr.specs.Refusals.{longestCall, leftoversMost, targetOut, endOut, ninth, callRules}
 
 passed-by : (b : Bool) (n x : ℕ) → cond b (suc n) x ≡ 0 → (b ≡ false) × (x ≡ 0)
 passed-by true n x e = absurd (omega arith)
 passed-by false n x e = (refl, e)
 
-target-in : (e : ℤ) → targetOut e ≡ false → Within mostPower e
+target-in : (e : ℤ) → targetOut e ≡ false → Within powerMost e
 unfolding targetOut
 target-in e h =
-    let p = or-false (ltZ e (negℤ (pos mostPower))) (ltZ (pos mostPower) e) h in
+    let p = or-false (ltZ e (negℤ (pos powerMost))) (ltZ (pos powerMost) e) h in
     between (omega (arith, flags)) (omega (arith, flags))
 
 -- a multiple of 900 from t + 900 to t + 3,600
@@ -42,14 +42,14 @@ end-in t D h =
     }
 
 -- a call that ends one that isn't resting finds a place
-room-left : (rests : Bool) (counted : ℕ) → ninth rests counted ≡ false → rests ≡ false → counted < mostLeftovers
+room-left : (rests : Bool) (counted : ℕ) → ninth rests counted ≡ false → rests ≡ false → counted < leftoversMost
 unfolding ninth
-room-left rests counted r q = leb-false mostLeftovers counted (rw q at r)
+room-left rests counted r q = leb-false leftoversMost counted (rw q at r)
 
 pub record Passed (rests : Bool) (counted t : ℕ) (e : ℤ) (D : ℕ) : Type 0 where
-  pub target : Within mostPower e
+  pub target : Within powerMost e
   pub end : EndIn t D
-  pub room : rests ≡ false → counted < mostLeftovers
+  pub room : rests ≡ false → counted < leftoversMost
 
 pub passed : (rests : Bool) (counted t : ℕ) (e : ℤ) (D : ℕ) → first (callRules rests counted t e D) ≡ 0 → Passed rests counted t e D
 unfolding callRules

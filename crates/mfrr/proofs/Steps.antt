@@ -19,9 +19,9 @@ use Rattle.mfrr.specs.declared.MfrrStep.{MfrrStep}
 use Rattle.mfrr.specs.declared.MfrrAnswer.{MfrrAnswer}
 use Rattle.mfrr.specs.declared.MfrrAnswer.the-variants.{Given, Refused}
 use Rattle.mfrr.specs.Signal.{Second, quiet, call, History, setpointAt}
-use Rattle.mfrr.specs.Leftovers.{bandAt}
+use Rattle.mfrr.specs.Band.{bandAt}
 use Rattle.mfrr.specs.Refusals.{refusal, Accepted}
-use Rattle.mfrr.specs.State.{stateOf, Ready, mostLimit, valueIn, limitsIn, restingIn, held, numberOf, refusalIn, calledIn, takenIn, limitsNow, acceptedIn, stepBy, stepIn, stepOf, GivenRange, Stepped}
+use Rattle.mfrr.specs.State.{stateOf, Ready, limitMost, valueIn, limitsIn, restingIn, held, numberOf, refusalIn, calledIn, takenIn, limitsNow, acceptedIn, stepBy, stepIn, stepOf, GivenRange, Stepped}
 use Rattle.mfrr.proofs.Rules.{Passed, passed}
 use Rattle.mfrr.proofs.Ready.{fresh, called-ready, setpoint-within, now-ready, next-ready}
 use Rattle.mfrr.proofs.Inside.{inside}
@@ -36,12 +36,11 @@ given-range s r =
     record {
       setpoint-range = setpoint-within s r;
       contains = published-contains (limitsNow s) _ (inside _ (limitsIn (s .phase)) (held (s .leftovers)));
-      low-range = lower-within mostLimit _ (l .lower-range);
-      high-range = upper-within mostLimit _ (l .upper-range);
+      small = (lower-within limitMost _ (l .lower-range), upper-within limitMost _ (l .upper-range));
     }
 
 pub published-fits : (s : MfrrState) → Ready s → SFits w32 (publishedOf (limitsNow s) .low .0) × SFits w32 (publishedOf (limitsNow s) .high .0)
-published-fits s r = let g = given-range s r in (search fit, search fit)
+published-fits s r = let g = given-range s r .small in (search fit, search fit)
 
 answer-range : (s : MfrrState) → Ready s → {v : Kw} {b : Band} → acceptedIn s .answer ≡ Given v b → GivenRange v b
 unfolding acceptedIn
@@ -63,6 +62,10 @@ module _ (s : MfrrState) (t : ℕ) (ok : Ready s) where
   taken-ready (call e D) z = let p = call-passed (kw e) D z in called-ready s ok t (kw e) D (p .target) (p .end .most)
 
   module _ (x : Second) where
+    never : {r : MfrrStep} {n : ℕ} → r ≡ acceptedIn (takenIn s t x) → r .answer ≡ Refused n → ⊥
+    unfolding acceptedIn
+    never e k = let z : _≡_ {A = ℕ} 0 1 = cc in omega arith
+
     pub taken-in : {r : MfrrStep} → refusalIn s t x ≡ 0 → r ≡ acceptedIn (takenIn s t x) → Stepped s t x r
     unfolding stepIn stepBy acceptedIn
     taken-in z e =
@@ -70,6 +73,7 @@ module _ (s : MfrrState) (t : ℕ) (ok : Ready s) where
           is = rw (e, z);
           number = rw (e, z);
           given = λ k. answer-range (takenIn s t x) (taken-ready x z) (sym (ap (λ (r : MfrrStep). r .answer) e) ∙ k);
+          refused = λ k. absurd (never e k);
           ready = rw e (next-ready (takenIn s t x) (taken-ready x z));
         }
 
@@ -84,6 +88,7 @@ module _ (s : MfrrState) (t : ℕ) (ok : Ready s) where
           is = by-number m e n;
           number = e;
           given = λ k. let z : _≡_ {A = ℕ} 0 1 = cc in absurd (omega arith);
+          refused = λ {n = k} p q. let z : m ≡ k = cc in n (z ∙ q);
           ready = ok;
         }
 

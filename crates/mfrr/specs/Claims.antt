@@ -8,10 +8,11 @@ use lib.ListN.{length}
 use Rattle.numbers.specs.Bounds.{Within}
 use Rattle.power.specs.Units.{kw}
 use Rattle.power.specs.Inward.{Contains, Published}
-use Rattle.mfrr.specs.Signal.{mostPower, Second, quiet, call, History, phaseNow, isResting, setpointAt}
-use Rattle.mfrr.specs.Band.{point}
-use Rattle.mfrr.specs.Leftovers.{leftovers, counting, limitsAt, bandAt}
-use Rattle.mfrr.specs.Refusals.{mostLeftovers, Accepted}
+use Rattle.mfrr.specs.Signal.{powerMost, Second, quiet, call, History, phaseNow, isResting, setpointAt}
+use Rattle.mfrr.specs.Limits.{point}
+use Rattle.mfrr.specs.Leftovers.{leftovers, counting}
+use Rattle.mfrr.specs.Band.{limitsAt, bandAt}
+use Rattle.mfrr.specs.Refusals.{leftoversMost, Accepted}
 use Rattle.mfrr.specs.State.{held, stateOf, Ready, stepIn, stepOf, GivenRange}
 
 pub record Claims : Type 0 where
@@ -24,12 +25,12 @@ pub record Claims : Type 0 where
   pub at-rest : (h : History) (x : Second) → Accepted (x ∷ h) → isResting (phaseNow h x) ≡ true → limitsAt h x ≡ point (pos 0)
   pub at-rest-band : (h : History) (x : Second) → Accepted (x ∷ h) → isResting (phaseNow h x) ≡ true → bandAt h x ≡ record { low = kw (pos 0); high = kw (pos 0) }
   -- "At most 8 leftovers"
-  pub at-most : (h : History) (x : Second) → Accepted (x ∷ h) → length (counting (length h) (leftovers (x ∷ h))) ≤ mostLeftovers
+  pub at-most : (h : History) (x : Second) → Accepted (x ∷ h) → length (counting (length h) (leftovers (x ∷ h))) ≤ leftoversMost
   -- the eight places hold all leftovers that count, newest first
-  pub places : (h : History) → Accepted h → length (stateOf h .leftovers) ≡ mostLeftovers
+  pub places : (h : History) → Accepted h → length (stateOf h .leftovers) ≡ leftoversMost
   pub holds : (h : History) → Accepted h → held (stateOf h .leftovers) ≡ counting (length h) (leftovers h)
   -- a step from the state after accepted seconds gives what the past gives, and the state after it
-  pub step : (h : History) → Accepted h → (x : Second) → stepIn (stateOf h) (length h) x ≡ stepOf h x
+  pub follows : (h : History) → Accepted h → (x : Second) → stepIn (stateOf h) (length h) x ≡ stepOf h x
   -- what a step asks, and what it gives
   pub ready : (h : History) → Accepted h → Ready (stateOf h)
   pub range : (h : History) (x : Second) → Accepted (x ∷ h) → GivenRange (kw (setpointAt h x)) (bandAt h x)

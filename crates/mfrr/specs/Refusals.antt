@@ -8,23 +8,23 @@ use lib.IntN.{ℤ, pos, negℤ}
 use lib.ListN.{length}
 use lib.Signed.{ltZ}
 use Rattle.numbers.specs.Rules.{Rule, refuse, first}
-use Rattle.mfrr.specs.Signal.{quarterHour, mostPower, Second, quiet, call, History, signal, phaseAt, isResting}
+use Rattle.mfrr.specs.Signal.{quarterHour, powerMost, Second, quiet, call, History, signal, phaseAt, isResting}
 use Rattle.mfrr.specs.Leftovers.{leftovers, counting}
 
 -- the seconds that a book can have
-abbrev pub mostSeconds : ℕ
-mostSeconds = 90000
+abbrev pub secondsMost : ℕ
+secondsMost = 90000
 
 -- a delivery ends at most this many seconds after its call
 abbrev pub longestCall : ℕ
 longestCall = 3600
 
-abbrev pub mostLeftovers : ℕ
-mostLeftovers = 8
+abbrev pub leftoversMost : ℕ
+leftoversMost = 8
 
 -- "target outside ±1,000,000"
 unfoldable pub targetOut : ℤ → Bool
-targetOut e = ltZ e (negℤ (pos mostPower)) || ltZ (pos mostPower) e
+targetOut e = ltZ e (negℤ (pos powerMost)) || ltZ (pos powerMost) e
 
 -- "end not a multiple of 900 or outside t + 900 to t + 3,600"
 unfoldable pub endOut : ℕ → ℕ → Bool
@@ -32,7 +32,7 @@ endOut t D = not (eqb (D % quarterHour) 0) || (ltb D (t + quarterHour) || ltb (t
 
 -- "a ninth leftover": the old signal isn't resting, so that it leaves one, where "at most 8" count already
 unfoldable pub ninth : Bool → ℕ → Bool
-ninth rests counted = not rests && leb mostLeftovers counted
+ninth rests counted = not rests && leb leftoversMost counted
 
 -- "with a call, 8 .., 9 .., 10 ..", for a call at second t; `rests` and `counted` say of the old signal that it rests and of the leftovers
 -- how many count, both at t

@@ -12,8 +12,8 @@ abbrev pub quarterHour : ℕ
 quarterHour = 900
 
 -- the largest target in kW, up or down
-abbrev pub mostPower : ℕ
-mostPower = 1000000
+abbrev pub powerMost : ℕ
+powerMost = 1000000
 
 -- a second as mFRR sees it: with no call, or with a call that "has target e and delivery end D"
 pub data Second : Type 0 where

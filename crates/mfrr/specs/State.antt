@@ -20,12 +20,13 @@ use Rattle.mfrr.specs.declared.leftovers.Leftover.{Leftover}
 use Rattle.mfrr.specs.declared.signal.Phase.{Phase}
 use Rattle.mfrr.specs.declared.signal.Phase.the-variants.{Resting, RampingUp, Delivering, RampingDown}
 use Rattle.mfrr.specs.Signal as past
-use Rattle.mfrr.specs.Signal.{quarterHour, mostPower, Second, quiet, call, History, resting, rampingUp, delivering, rampingDown, signal, phaseAt, setpointAt, isResting, rampUp, rampDown}
-use Rattle.mfrr.specs.Band.{point, targetLimits, reaching, spanned}
+use Rattle.mfrr.specs.Signal.{quarterHour, powerMost, Second, quiet, call, History, resting, rampingUp, delivering, rampingDown, signal, phaseAt, setpointAt, isResting, rampUp, rampDown}
+use Rattle.mfrr.specs.Limits.{point, targetLimits, reaching}
+use Rattle.mfrr.specs.Leftovers.{leftoverOf}
+use Rattle.mfrr.specs.Band.{spanned, bandAt}
 use Rattle.mfrr.specs.Leftovers as past-leftovers
-use Rattle.mfrr.specs.Leftovers.{leftoverOf, bandAt}
 use Rattle.numbers.specs.Rules.{first}
-use Rattle.mfrr.specs.Refusals.{mostSeconds, longestCall, mostLeftovers, callRules, refusal}
+use Rattle.mfrr.specs.Refusals.{secondsMost, longestCall, leftoversMost, callRules, refusal}
 
 -- ---- what the state holds after a past
 
@@ -57,7 +58,7 @@ unfoldable pub placed : ℕ → past.Phase → List past-leftovers.Leftover → 
 placed t p ps = cond (isResting p) ps (put (freeAt t) (leftoverOf p) ps)
 
 unfoldable pub places : History → List past-leftovers.Leftover
-places [] = replicate mostLeftovers unused
+places [] = replicate leftoversMost unused
 places (quiet ∷ h) = places h
 places (call e D ∷ h) = placed (length h) (phaseAt (signal h) (length h)) (places h)
 
@@ -73,17 +74,17 @@ stateOf h =
 
 abbrev pub PhaseReady : Phase → Type 0
 PhaseReady Resting = Unit
-PhaseReady (RampingUp b e since left) = Within mostPower (b .0) × Within mostPower (e .0) × (since ≤ quarterHour) × (left ≤ longestCall)
-PhaseReady (Delivering e left) = Within mostPower (e .0) × (left ≤ longestCall)
-PhaseReady (RampingDown e since) = Within mostPower (e .0) × (since ≤ quarterHour)
+PhaseReady (RampingUp b e since left) = Within powerMost (b .0) × Within powerMost (e .0) × (since ≤ quarterHour) × (left ≤ longestCall)
+PhaseReady (Delivering e left) = Within powerMost (e .0) × (left ≤ longestCall)
+PhaseReady (RampingDown e since) = Within powerMost (e .0) × (since ≤ quarterHour)
 
 -- the largest limit in kW, up or down: 1.2 × the largest target
-abbrev pub mostLimit : ℕ
-mostLimit = mostPower * 12 / 10
+abbrev pub limitMost : ℕ
+limitMost = powerMost * 12 / 10
 
 pub record LimitsReady (l : Limits) : Type 0 where
-  pub lower-range : Within (mostLimit * perKw) (l .lower .0)
-  pub upper-range : Within (mostLimit * perKw) (l .upper .0)
+  pub lower-range : Within (limitMost * perKw) (l .lower .0)
+  pub upper-range : Within (limitMost * perKw) (l .upper .0)
 
 abbrev pub EachReady : List Leftover → Type 0
 EachReady [] = Unit
@@ -134,7 +135,7 @@ laterIn (RampingUp b e since left) =
 laterIn (Delivering e left) = afterDelivery e left
 laterIn (RampingDown e since) = cond (ltb since quarterHour) (RampingDown e (since + 1)) Resting
 
-unfoldable pub older : Leftover → Leftover
+abbrev pub older : Leftover → Leftover
 older x = record { limits = x .limits; left = x .left - 1 }
 
 -- the limits of the leftovers that count
@@ -203,14 +204,14 @@ numberIn (Given s b) = 0
 numberIn (Refused n) = n
 
 pub record GivenRange (s : Kw) (b : Band) : Type 0 where
-  pub setpoint-range : Within mostPower (s .0)
+  pub setpoint-range : Within powerMost (s .0)
   pub contains : Published b (s .0)
-  pub low-range : Within mostLimit (b .low .0)
-  pub high-range : Within mostLimit (b .high .0)
+  pub small : Within limitMost (b .low .0) × Within limitMost (b .high .0)
 
 pub record Stepped (s : MfrrState) (t : ℕ) (x : Second) (r : MfrrStep) : Type 0 where
   pub is : r ≡ stepIn s t x
-  -- of any state: what callers need to go on
+  -- what callers need to go on
   pub number : numberIn (r .answer) ≡ refusalIn s t x
   pub given : {v : Kw} {b : Band} → r .answer ≡ Given v b → GivenRange v b
+  pub refused : {n : ℕ} → r .answer ≡ Refused n → n ≡ 0 → ⊥
   pub ready : Ready (r .state)

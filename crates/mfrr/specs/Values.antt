@@ -7,7 +7,7 @@ use lib.ListN.{replicate}
 use Rattle.power.specs.declared.limits.Band.{Band}
 use Rattle.power.specs.Units.{kw}
 use Rattle.mfrr.specs.Signal.{Second, quiet, call, History, setpointAt}
-use Rattle.mfrr.specs.Leftovers.{bandAt}
+use Rattle.mfrr.specs.Band.{bandAt}
 use Rattle.mfrr.specs.Refusals.{refusal}
 
 -- the call at 0

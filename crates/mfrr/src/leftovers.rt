@@ -8,10 +8,10 @@ ghost use mathlib.Core.Path.{_≡_};
 ghost use mathlib.Core.List.{[], _∷_, map};
 ghost use Prim.Native.Nat.{_≤_};
 ghost use lib.ListN.{length};
-ghost use Rattle.mfrr.specs.Band.{spanAll};
+ghost use Rattle.mfrr.specs.Limits.{spanAll};
 ghost use Rattle.mfrr.specs.State.{PhaseReady, secondsLeft, leftoverIn, held, isFree, put, older};
 
-pub const MOST_LEFTOVERS: usize = 8;
+pub const LEFTOVERS_MOST: usize = 8;
 
 pub struct Leftover {
     pub limits: Limits,
@@ -76,19 +76,17 @@ impl Leftover {
         ensures { λ r. ⌜ r ≡ older self ⌝ }
     {
         let limits = self.limits;
-        Leftover {
-            limits,
-            left: one_less(self.left),
-        }
+        let left = one_less(self.left);
+        Leftover { limits, left }
     }
 }
 
 // How many leftovers count.
-pub fn count(places: [Leftover; MOST_LEFTOVERS]) -> usize
+pub fn count(places: [Leftover; LEFTOVERS_MOST]) -> usize
     ensures { λ r. ⌜ r ≡ length (held places) ⌝ }
 {
     let mut n: usize = 0;
-    for i in 0..MOST_LEFTOVERS {
+    for i in 0..LEFTOVERS_MOST {
         let x = places[i];
         n += x.counted();
     }
@@ -96,11 +94,11 @@ pub fn count(places: [Leftover; MOST_LEFTOVERS]) -> usize
 }
 
 // `limits`, wider by those of each leftover that counts.
-pub fn widen_all(limits: Limits, places: [Leftover; MOST_LEFTOVERS]) -> Limits
+pub fn widen_all(limits: Limits, places: [Leftover; LEFTOVERS_MOST]) -> Limits
     ensures { λ r. ⌜ r ≡ spanAll limits (held places) ⌝ }
 {
     let mut all = limits;
-    for i in 0..MOST_LEFTOVERS {
+    for i in 0..LEFTOVERS_MOST {
         let x = places[i];
         all = x.widen(all);
     }
@@ -108,12 +106,12 @@ pub fn widen_all(limits: Limits, places: [Leftover; MOST_LEFTOVERS]) -> Limits
 }
 
 // The places with `x` in front: the others move on by one, up to the first that is free.
-pub fn put_first(places: [Leftover; MOST_LEFTOVERS], x: Leftover) -> [Leftover; MOST_LEFTOVERS]
+pub fn put_first(places: [Leftover; LEFTOVERS_MOST], x: Leftover) -> [Leftover; LEFTOVERS_MOST]
     ensures { λ r. ⌜ r ≡ put isFree x places ⌝ }
 {
     let mut all = places;
     let mut moving = x;
-    for i in 0..MOST_LEFTOVERS {
+    for i in 0..LEFTOVERS_MOST {
         let old = all[i];
         all[i] = moving;
         if old.left == 0 {
@@ -125,11 +123,11 @@ pub fn put_first(places: [Leftover; MOST_LEFTOVERS], x: Leftover) -> [Leftover; 
 }
 
 // The places a second later.
-pub fn all_later(places: [Leftover; MOST_LEFTOVERS]) -> [Leftover; MOST_LEFTOVERS]
+pub fn all_later(places: [Leftover; LEFTOVERS_MOST]) -> [Leftover; LEFTOVERS_MOST]
     ensures { λ r. ⌜ r ≡ map older places ⌝ }
 {
     let mut all = places;
-    for i in 0..MOST_LEFTOVERS {
+    for i in 0..LEFTOVERS_MOST {
         let x = all[i];
         all[i] = x.later();
     }

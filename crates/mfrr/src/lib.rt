@@ -9,7 +9,7 @@ use band::spanning;
 use leftovers::all_later;
 use leftovers::put_first;
 use leftovers::widen_all;
-use leftovers::MOST_LEFTOVERS;
+use leftovers::LEFTOVERS_MOST;
 use power::Band;
 use power::Grains;
 use power::Kw;
@@ -20,13 +20,13 @@ pub use signal::Phase;
 ghost use mathlib.Core.Path.{_≡_};
 ghost use mathlib.Core.List.{[]};
 ghost use Prim.Native.Nat.{_<_, _≤_};
-ghost use Rattle.mfrr.specs.Refusals.{mostSeconds};
+ghost use Rattle.mfrr.specs.Refusals.{secondsMost};
 ghost use Rattle.mfrr.specs.State.{stateOf, Ready, numberIn, secondOf, calledIn, acceptedIn, limitsNow, Stepped};
 
 // What a second needs of those before it: the phase at this second unless a call comes, and the leftovers.
 pub struct MfrrState {
     pub phase: Phase,
-    pub leftovers: [Leftover; MOST_LEFTOVERS],
+    pub leftovers: [Leftover; LEFTOVERS_MOST],
 }
 
 pub enum MfrrAnswer {
@@ -64,7 +64,7 @@ impl MfrrState {
             upper: Grains(0),
         };
         let free = Leftover { limits, left: 0 };
-        let leftovers = [free; MOST_LEFTOVERS];
+        let leftovers = [free; LEFTOVERS_MOST];
         MfrrState {
             phase: Phase::Resting,
             leftovers,
@@ -73,7 +73,7 @@ impl MfrrState {
 
     // Second `t`, with a call or with none: setpoint and band, and the state for the next second; or a refusal, and the old state.
     pub fn step(self, t: u32, call: bool, target: Kw, end: u32) -> MfrrStep
-        requires { ⌜ (t < mostSeconds) × Ready self ⌝ }
+        requires { ⌜ (t < secondsMost) × Ready self ⌝ }
         ensures { λ r. ⌜ Stepped self t (secondOf call target end) r ⌝ }
     {
         if !call {

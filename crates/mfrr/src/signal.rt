@@ -3,7 +3,7 @@ use power::Kw;
 ghost use mathlib.Core.Path.{_≡_};
 ghost use Prim.Native.Nat.{_-_, _*_, _≤_};
 ghost use Rattle.numbers.specs.Bounds.{Within};
-ghost use Rattle.mfrr.specs.Signal.{quarterHour, mostPower, rampPart, rampUp, rampDown};
+ghost use Rattle.mfrr.specs.Signal.{quarterHour, powerMost, rampPart, rampUp, rampDown};
 ghost use Rattle.mfrr.specs.State.{valueIn, restingIn, laterIn, afterDelivery, PhaseReady};
 
 // A ramp takes a quarter of an hour, and a delivery ends on one: in seconds.
@@ -134,7 +134,7 @@ fn after_delivery(target: Kw, left: u32) -> Phase
 
 // The value `k` seconds into the ramp up.
 fn raised(start: Kw, target: Kw, k: u32) -> Kw
-    requires { ⌜ Within mostPower (start .0) × Within mostPower (target .0) × (k ≤ quarterHour) ⌝ }
+    requires { ⌜ Within powerMost (start .0) × Within powerMost (target .0) × (k ≤ quarterHour) ⌝ }
     ensures { λ r. ⌜ r .0 ≡ rampUp (start .0) (target .0) k ⌝ }
 {
     let height = target.minus(start);
@@ -143,7 +143,7 @@ fn raised(start: Kw, target: Kw, k: u32) -> Kw
 
 // The value `k` seconds into the ramp down.
 fn fallen(target: Kw, k: u32) -> Kw
-    requires { ⌜ Within mostPower (target .0) × (k ≤ quarterHour) ⌝ }
+    requires { ⌜ Within powerMost (target .0) × (k ≤ quarterHour) ⌝ }
     ensures { λ r. ⌜ r .0 ≡ rampDown (target .0) k ⌝ }
 {
     target.minus(part(target, k))
@@ -151,7 +151,7 @@ fn fallen(target: Kw, k: u32) -> Kw
 
 // What `k` seconds are of a ramp of height `d`.
 fn part(d: Kw, k: u32) -> Kw
-    requires { ⌜ Within (2 * mostPower) (d .0) × (k ≤ quarterHour) ⌝ }
+    requires { ⌜ Within (2 * powerMost) (d .0) × (k ≤ quarterHour) ⌝ }
     ensures { λ r. ⌜ r .0 ≡ rampPart (d .0) k ⌝ }
 {
     Kw(((d.0 as i64) * (k as i64) / RAMP) as i32)

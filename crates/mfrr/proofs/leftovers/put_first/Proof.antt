@@ -5,6 +5,7 @@ use mathlib.Core.List.{_++_}
 use Prim.Native.Nat.{_≤_, _+_, _-_}
 use native.Mathlib.Omega.{arith}
 use lib.ListN.{length, take, drop, length-set}
+use Rattle.mfrr.specs.Refusals.{leftoversMost}
 use Rattle.mfrr.specs.State.{isFree, put}
 use Rattle.mfrr.proofs.Places.{beyond, put-here, put-later, put-none}
 use Rattle.mfrr.proofs.leftovers.put_first.Statement.{statement}
@@ -12,10 +13,10 @@ use Rattle.mfrr.proofs.leftovers.put_first.Tie as tie
 
 abbrev Inv-loop : tie.InvT-loop
 Inv-loop all₀ moving₀ i₀ all moving i =
-    (i ≤ 8) × (length all ≡ 8) × (take i all ++ put isFree moving (drop i all) ≡ put isFree moving₀ all₀)
+    (i ≤ leftoversMost) × (length all ≡ leftoversMost) × (take i all ++ put isFree moving (drop i all) ≡ put isFree moving₀ all₀)
 
 abbrev μ-loop : tie.MeasureT-loop
-μ-loop all₀ moving₀ i₀ all moving i = 8 - i
+μ-loop all₀ moving₀ i₀ all moving i = leftoversMost - i
 
 loop-holds : tie.Need-loop-holds Inv-loop μ-loop
 loop-holds c = (omega arith, search needs, refl)
