@@ -1,2 +1,3 @@
 pub mod Passed
 pub mod Past
+pub mod Sizes

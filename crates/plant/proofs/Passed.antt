@@ -36,16 +36,16 @@ passed t x e =
     let n = none (recordRules t x) refl e in
     let h = or-false _ _ (n .1 .0) in
     let k = or-false _ _ (h .1) in
-    let p = or-false _ _ (n .3 .0) in
+    let p = or-false _ _ (n .1 .1 .1 .0) in
     record {
       seconds = leb-false mostSeconds t (n .0);
       fcr-held = held _ (h .0);
       afrr-up = held _ (k .0);
       afrr-down = held _ (k .1);
-      deviation = inside mostDeviation _ (n .2 .0);
+      deviation = inside mostDeviation _ (n .1 .1 .0);
       measured = inside mostPower _ (p .0);
       working-point = inside mostPower _ (p .1);
-      afrr-setpoint = inside mostHeld _ (n .4 .0);
-      status = ltb-false mostStatus (x .status) (n .5 .0);
-      call = ltb-false 1 (x .call) (or-false _ _ (n .6 .0) .0);
+      afrr-setpoint = inside mostHeld _ (n .1 .1 .1 .1 .0);
+      status = ltb-false mostStatus (x .status) (n .1 .1 .1 .1 .1 .0);
+      call = ltb-false 1 (x .call) (or-false _ _ (n .1 .1 .1 .1 .1 .1 .0) .0);
     }

@@ -5,7 +5,7 @@ use mathlib.Core.List.{List, [], _∷_, _++_, map}
 use Prim.Native.Nat.{ℕ, zero, suc, _+_, _≤_}
 use native.Mathlib.Numerals.{add-one}
 use native.Mathlib.Omega.{arith}
-use lib.Dec.{T, eqb}
+use lib.Dec.{eqb}
 use lib.IntN.{ℤ}
 use lib.ListN.{length, length-map}
 use Rattle.numbers.specs.Bounds.{Within}
@@ -15,6 +15,7 @@ use Rattle.power.specs.Past.{Ranged}
 use Rattle.power.specs.Units.{kw}
 use Rattle.power.proofs.Past.{ranged-none, ranged-cons}
 use Rattle.record.specs.declared.Record.{Record}
+use Rattle.record.specs.declared.Reading.{Reading}
 use Rattle.record.specs.declared.Reading.the-variants as reading
 use Rattle.record.specs.Record.{size, recordOf, readingOf}
 use Rattle.fcr.specs.State as fcr
@@ -24,10 +25,11 @@ use Rattle.afrr.specs.State as afrr
 use Rattle.afrr.proofs.Claims as afrr-claims
 use Rattle.mfrr.specs.Signal as mfrr-signal
 use Rattle.mfrr.specs.Signal.{setpointAt}
-use Rattle.mfrr.specs.Leftovers.{bandAt}
+use Rattle.mfrr.specs.Band.{bandAt}
 use Rattle.mfrr.specs.Refusals as mfrr-refusals
 use Rattle.mfrr.specs.Refusals.{rulesAt, refusal}
 use Rattle.mfrr.specs.State as mfrr
+use Rattle.mfrr.specs.declared.MfrrAnswer.the-variants.{Given}
 use Rattle.mfrr.specs.declared.MfrrStep.{MfrrStep}
 use Rattle.mfrr.proofs.Claims as mfrr-claims
 use Rattle.plant.specs.declared.Kinds.{Kinds}
@@ -35,21 +37,17 @@ use Rattle.plant.specs.declared.PlantStep.{PlantStep}
 use Rattle.plant.specs.Seconds.{History, fcrSetpoint, fcrPast, afrrSecond, afrrPast, mfrrSecond, mfrrPast}
 use Rattle.plant.specs.Refusals.{mostSeconds, recordRules, recordNumber}
 use Rattle.plant.specs.Ranges.{Passed}
-use Rattle.plant.specs.Rows.{mfrrAt, kindsAt, offRules, offNumber, recordNumberAt, numberAt, rowBy, rowAt, answerBy, answerAt, grownBy, grown, stateOf}
-use Rattle.plant.specs.State.{kindsWith, kindsIn, grownIn, stepBy, givenIn, kindsStepIn, calledIn, recordStepIn, stepIn, Ready}
+use Rattle.plant.specs.Rows.{mfrrAt, kindsAt, offRules, offNumber, recordNumberAt, numberBy, numberAt, rowBy, rowAt, answerBy, answerAt, grownBy, grown, stateOf}
+use Rattle.plant.specs.State.{kindsWith, kindsIn, grownIn, stepBy, givenIn, kindsStepIn, calledIn, recordStepIn, readIn, stepIn, Ready}
 use Rattle.plant.specs.Run.{Accepted, OverPast}
 use Rattle.plant.proofs.Passed.{passed}
 
 -- ---- the number of a record is that of its three groups of rules
 
-call-rules-numbered : (h : mfrr-signal.History) (y : mfrr-signal.Second) → T (numbered (rulesAt h y))
+call-rules-numbered : (h : mfrr-signal.History) (y : mfrr-signal.Second) → numbered (rulesAt h y) ≡ true
 unfolding rulesAt mfrr-refusals.callRules
-call-rules-numbered h mfrr-signal.quiet = tt
-call-rules-numbered h (mfrr-signal.call e D) = tt
-
-call-number : (h : mfrr-signal.History) (y : mfrr-signal.Second) → first (rulesAt h y) ≡ refusal h y
-unfolding refusal
-call-number h y = refl
+call-rules-numbered h mfrr-signal.quiet = refl
+call-rules-numbered h (mfrr-signal.call e D) = refl
 
 abbrev callNumber : History → Record → ℕ
 callNumber h x = refusal (mfrrPast h) (mfrrSecond x)
@@ -57,7 +55,7 @@ callNumber h x = refusal (mfrrPast h) (mfrrSecond x)
 pub number-parts : (h : History) (x : Record) → recordNumberAt h x ≡ orElse (recordNumber (length h) x) (orElse (callNumber h x) (offNumber (kindsAt h x)))
 unfolding recordNumberAt recordNumber offNumber refusal
 number-parts h x =
-    first-append (recordRules (length h) x) (rulesAt (mfrrPast h) (mfrrSecond x) ++ offRules (kindsAt h x)) tt
+    first-append (recordRules (length h) x) (rulesAt (mfrrPast h) (mfrrSecond x) ++ offRules (kindsAt h x)) refl
     ∙ ap (orElse (recordNumber (length h) x))
     (first-append (rulesAt (mfrrPast h) (mfrrSecond x)) (offRules (kindsAt h x)) (call-rules-numbered (mfrrPast h) (mfrrSecond x)))
 
@@ -121,7 +119,7 @@ ready h a =
 
 module _ (h : History) (a : Accepted h) (x : Record) (m w : ℤ) where
   -- what the second gives by its number
-  outcome : ℕ → PlantStep
+  abbrev outcome : ℕ → PlantStep
   outcome n = record { answer = answerBy n (rowAt h x m w); state = stateOf (grownBy n x h) }
 
   kinds-are :
@@ -160,21 +158,19 @@ module _ (h : History) (a : Accepted h) (x : Record) (m w : ℤ) where
   unfolding stateOf
   mfrr-step =
       ap (λ (n : ℕ). mfrr.stepIn (mfrr.stateOf (mfrrPast h)) n (mfrrSecond x)) (sym (length-map h mfrrSecond))
-      ∙ mfrr-claims.claims .step (mfrrPast h) (mfrr-accepted h a) (mfrrSecond x)
+      ∙ mfrr-claims.claims .follows (mfrrPast h) (mfrr-accepted h a) (mfrrSecond x)
 
   by-call : calledIn (stateOf h) x m w ≡ outcome (orElse (callNumber h x) (offNumber (kindsAt h x)))
   unfolding calledIn mfrr.stepOf mfrr.stepBy
   by-call =
-      ap (λ (p : MfrrStep). givenIn (p .answer) (p .state) (stateOf h) x m w) mfrr-step
-      ∙ go (callNumber h x)
+      ap (λ (p : MfrrStep). givenIn (p .answer) (p .state) (stateOf h) x m w) mfrr-step ∙ go (callNumber h x)
     where
-      go :
-          (n : ℕ) →
-          givenIn
-          (mfrr.stepBy n (mfrr.stateOf (mfrrPast h)) (mfrr.stepOf (mfrrPast h) (mfrrSecond x)) .answer)
-          (mfrr.stepBy n (mfrr.stateOf (mfrrPast h)) (mfrr.stepOf (mfrrPast h) (mfrrSecond x)) .state)
-          (stateOf h) x m w
-          ≡ outcome (orElse n (offNumber (kindsAt h x)))
+      taken : ℕ → MfrrStep
+      taken n =
+          mfrr.stepBy n (mfrr.stateOf (mfrrPast h))
+          (record { answer = Given (mfrrAt h x .setpoint) (mfrrAt h x .band); state = mfrr.stateOf (mfrrSecond x ∷ mfrrPast h) })
+
+      go : (n : ℕ) → givenIn (taken n .answer) (taken n .state) (stateOf h) x m w ≡ outcome (orElse n (offNumber (kindsAt h x)))
       go zero = by-off
       go (suc n) = refl
 
@@ -187,10 +183,19 @@ module _ (h : History) (a : Accepted h) (x : Record) (m w : ℤ) where
       go (suc n) = refl
 
 module _ (h : History) (a : Accepted h) (s : List ℕ) (m w : ℤ) where
-  pub over-bytes : stepIn (stateOf h) s m w ≡ record { answer = answerAt h s m w; state = stateOf (grown h s) }
+  abbrev step-over : PlantStep
+  step-over = record { answer = answerAt h s m w; state = stateOf (grown h s) }
+
+  pub over-bytes : stepIn (stateOf h) s m w ≡ step-over
   unfolding stepIn answerAt grown numberAt readingOf
   over-bytes = go (eqb (length s) size)
     where
-      go : (t : Bool) → _≡_ {A = PlantStep} _ _
+      read : Bool → Reading
+      read t = cond t (reading.Fields (recordOf s)) (reading.Refused 12)
+
+      go :
+          (t : Bool) →
+          readIn (read t) (stateOf h) m w
+          ≡ record { answer = answerBy (numberBy (read t) h) (rowAt h (recordOf s) m w); state = stateOf (grownBy (numberBy (read t) h) (recordOf s) h) }
       go true = over-record h a (recordOf s) m w
       go false = refl

@@ -18,7 +18,7 @@ use Rattle.fcr.specs.State as fcr-state
 use Rattle.afrr.specs.Band as afrr
 use Rattle.afrr.specs.State as afrr-state
 use Rattle.mfrr.specs.Signal.{setpointAt}
-use Rattle.mfrr.specs.Leftovers as mfrr
+use Rattle.mfrr.specs.Band as mfrr
 use Rattle.mfrr.specs.State as mfrr-state
 use Rattle.mfrr.specs.Refusals.{rulesAt}
 use Rattle.plant.specs.declared.Kinds.{Kinds}

@@ -148,11 +148,10 @@ impl PlantState {
 fn afrr_second(x: Record) -> Second
     ensures { λ r. ⌜ r ≡ afrrSecond x ⌝ }
 {
-    Second {
-        setpoint: x.afrr_setpoint,
-        up: x.afrr_up,
-        down: x.afrr_down,
-    }
+    let setpoint = x.afrr_setpoint;
+    let up = x.afrr_up;
+    let down = x.afrr_down;
+    Second { setpoint, up, down }
 }
 
 // The kinds of a record, by their setpoints and published bands.
