@@ -1,0 +1,92 @@
+-- What the aFRR state holds after a past, and what a step answers.
+use Prim.Native.Nat.{ℕ, _-_, _*_}
+use mathlib.Core.Path.{_≡_}
+use mathlib.Core.List.{List, [], _∷_}
+use lib.IntN.{ℤ, pos}
+use lib.ListN.{take}
+use lib.Signed.{_≤ℤ_}
+use Rattle.numbers.specs.Bounds.{Within}
+use Rattle.power.specs.declared.kilowatts.Kw.{Kw}
+use Rattle.power.specs.declared.limits.Limits.{Limits}
+use Rattle.power.specs.Units.{perKw}
+use Rattle.power.specs.Inward.{publishedOf, Published}
+use Rattle.power.specs.Past.{newest, Ranged}
+use Rattle.afrr.specs.declared.Second.{Second}
+use Rattle.afrr.specs.declared.Extremes.{Extremes}
+use Rattle.afrr.specs.declared.AfrrState.{AfrrState}
+use Rattle.afrr.specs.declared.AfrrStep.{AfrrStep}
+use Rattle.afrr.specs.Band.{reach, setpoints, largest, smallest, heldOf, limitsFrom, lastLimits}
+
+-- what the state holds after the past h
+unfoldable pub stateOf : List Second → AfrrState
+stateOf h = record { past = newest reach (setpoints h); limits = lastLimits h }
+
+-- no limit is farther from 0 than this, in kW: the largest setpoint and 5 % of the largest held power
+abbrev pub limitMost : ℕ
+limitMost = 1050000
+
+-- what is asked of a state
+pub record Ready (st : AfrrState) : Type 0 where
+  pub past-range : Ranged (st .past)
+  pub upper-range : Within (limitMost * perKw) (st .limits .upper .0)
+  pub lower-range : Within (limitMost * perKw) (st .limits .lower .0)
+
+-- what is asked of a second's numbers (refusals 2 and 5 see to it)
+pub record Fair (x : Second) : Type 0 where
+  pub setpoint-range : Within 1000000 (x .setpoint .0)
+  pub up-range : Within 1000000 (x .up .0)
+  pub down-range : Within 1000000 (x .down .0)
+  pub up-sign : pos 0 ≤ℤ x .up .0
+  pub down-sign : pos 0 ≤ℤ x .down .0
+
+abbrev pub AllFair : List Second → Type 0
+AllFair [] = Unit
+AllFair (x ∷ h) = Fair x × AllFair h
+
+-- a second at any state: its limits are those by the setpoints and the limits that the state holds; then its setpoint stands before the others, of which the oldest is dropped
+abbrev pub limitsIn : AfrrState → Second → Limits
+limitsIn st x = limitsFrom (st .past) (st .limits) x
+
+unfoldable pub stepIn : AfrrState → Second → AfrrStep
+stepIn st x =
+    record {
+      band = publishedOf (limitsIn st x);
+      state = record { past = x .setpoint ∷ take (reach - 1) (st .past); limits = limitsIn st x };
+    }
+
+pub record Stepped (st : AfrrState) (x : Second) (r : AfrrStep) : Type 0 where
+  pub is : r ≡ stepIn st x
+  -- what callers need to go on
+  pub contains : Published (r .band) (x .setpoint .0)
+  pub small : Within limitMost (r .band .low .0) × Within limitMost (r .band .high .0)
+  pub ready : Ready (r .state)
+
+-- ---- what the other operations answer and ask
+
+pub record Extreme (l : List Kw) (r : Extremes) : Type 0 where
+  pub highest : r .highest .0 ≡ largest l
+  pub lowest : r .lowest .0 ≡ smallest l
+
+pub record Holds (x : Second) (r : Kw) : Type 0 where
+  pub held : r .0 ≡ heldOf x
+  pub held-range : Within 1000000 (r .0)
+  pub held-sign : pos 0 ≤ℤ r .0
+
+-- the largest gradient in grains
+abbrev pub gradientMost : ℕ
+gradientMost = 4000000
+
+-- what a limit is made of: of the recent setpoints the largest or the smallest, the last limit, the gradient, s, and 5 % of held
+pub record Sources (recent last g s five : ℤ) : Type 0 where
+  pub recent-range : Within 1000000 recent
+  pub last-range : Within (limitMost * perKw) last
+  pub g-range : Within gradientMost g
+  pub g-sign : pos 0 ≤ℤ g
+  pub s-range : Within 1000000 s
+  pub five-range : Within (50000 * perKw) five
+  pub five-sign : pos 0 ≤ℤ five
+
+-- the state after a second with the setpoint s and the limits l, which stay exact
+pub record Moved (st : AfrrState) (s : Kw) (l : Limits) (r : AfrrState) : Type 0 where
+  pub past : r .past ≡ s ∷ take (reach - 1) (st .past)
+  pub limits : r .limits ≡ l

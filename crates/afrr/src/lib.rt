@@ -1,0 +1,189 @@
+// aFRR: its band and its state (01, "Bands").
+ghost use mathlib.Core.Path.{_≡_};
+ghost use mathlib.Core.List.{[], _∷_};
+ghost use Prim.Native.Nat.{_≤_, _-_};
+ghost use lib.IntN.{pos};
+ghost use lib.ListN.{take};
+ghost use lib.Signed.{quotZ};
+ghost use mir.Syntax.{w64};
+ghost use mir.Val.{SFits};
+ghost use Rattle.power.specs.Past.{Ranged};
+ghost use Rattle.afrr.specs.Band.{reach, spread, ago, gradient, nextUpper, nextLower, limitsFrom};
+ghost use Rattle.afrr.specs.State.{stateOf, Ready, Fair, Stepped, Extreme, Holds, Sources, Moved};
+use power::Band;
+use power::Grains;
+use power::Kw;
+use power::Limits;
+
+// How many seconds back setpoints count.
+const REACH: usize = 300;
+
+// The seconds of reaction.
+const REACTION: usize = 30;
+
+// The seconds over which a change is spread, and the least change in kW.
+const SPREAD: i64 = 270;
+
+const LEAST: i32 = 5000;
+
+// What a second says of aFRR: the setpoint, and what is held up and down.
+pub struct Second {
+    pub setpoint: Kw,
+    pub up: Kw,
+    pub down: Kw,
+}
+
+// The last 300 setpoints, newest first, and the limits of the last second, exact.
+pub struct AfrrState {
+    pub past: [Kw; REACH],
+    pub limits: Limits,
+}
+
+pub struct AfrrStep {
+    pub band: Band,
+    pub state: AfrrState,
+}
+
+struct Extremes {
+    highest: Kw,
+    lowest: Kw,
+}
+
+// The highest and the lowest setpoint from `b` seconds ago to `a` seconds ago. A faster way can take its place.
+fn extremes_of(past: [Kw; REACH], a: usize, b: usize) -> Extremes
+    requires { ⌜ (1 ≤ a) × (a ≤ b) × (b ≤ reach) ⌝ }
+    ensures { λ r. ⌜ Extreme (ago a b past) r ⌝ }
+{
+    let newest = past[a - 1];
+    let mut highest = newest;
+    let mut lowest = newest;
+    for i in a..b {
+        let k = past[i];
+        highest = highest.larger(k);
+        lowest = lowest.smaller(k);
+    }
+    Extremes { highest, lowest }
+}
+
+fn spread_over(g: Grains) -> Grains
+    requires { ⌜ SFits w64 (quotZ (g .0) (pos spread)) ⌝ }
+    ensures { λ r. ⌜ r .0 ≡ quotZ (g .0) (pos spread) ⌝ }
+{
+    Grains(g.0 / SPREAD)
+}
+
+// What a limit moves in a second.
+fn gradient_of(past: [Kw; REACH]) -> Grains
+    requires { ⌜ Ranged past ⌝ }
+    ensures { λ r. ⌜ r .0 ≡ gradient past ⌝ }
+{
+    let x = extremes_of(past, REACTION, REACH);
+    let highest = x.highest;
+    let lowest = x.lowest;
+    let most = Kw(LEAST).larger(highest.minus(lowest));
+    spread_over(most.in_grains())
+}
+
+// The held power that counts, by the setpoint's sign.
+fn held_of(x: Second) -> Kw
+    requires { ⌜ Fair x ⌝ }
+    ensures { λ r. ⌜ Holds x r ⌝ }
+{
+    let s = x.setpoint;
+    let up = x.up;
+    let down = x.down;
+    if Kw(0).is_below(s) {
+        up
+    } else if s.is_below(Kw(0)) {
+        down
+    } else {
+        up.larger(down)
+    }
+}
+
+// The upper limit, from the largest recent setpoint, the last limit, the gradient, the setpoint and 5 % of held.
+fn next_upper(recent: Kw, last: Grains, g: Grains, s: Kw, five: Grains) -> Grains
+    requires { ⌜ Sources (recent .0) (last .0) (g .0) (s .0) (five .0) ⌝ }
+    ensures { λ r. ⌜ r .0 ≡ nextUpper (recent .0) (last .0) (g .0) (s .0) (five .0) ⌝ }
+{
+    let lowered = last.minus(g);
+    let near = s.in_grains().plus(five);
+    recent.in_grains().larger(lowered.larger(near))
+}
+
+// The lower limit: the mirror.
+fn next_lower(recent: Kw, last: Grains, g: Grains, s: Kw, five: Grains) -> Grains
+    requires { ⌜ Sources (recent .0) (last .0) (g .0) (s .0) (five .0) ⌝ }
+    ensures { λ r. ⌜ r .0 ≡ nextLower (recent .0) (last .0) (g .0) (s .0) (five .0) ⌝ }
+{
+    let mirrored = next_upper(recent.negated(), last.negated(), g, s.negated(), five);
+    mirrored.negated()
+}
+
+// The limits of the second `x`, from those of the last one.
+fn limits_of(state: AfrrState, x: Second) -> Limits
+    requires { ⌜ Ready state × Fair x ⌝ }
+    ensures { λ r. ⌜ r ≡ limitsFrom (state .past) (state .limits) x ⌝ }
+{
+    let past = state.past;
+    let last = state.limits;
+    let lower = last.lower;
+    let upper = last.upper;
+    let s = x.setpoint;
+    let g = gradient_of(past);
+    let recent = extremes_of(past, 1, REACTION);
+    let highest = recent.highest;
+    let lowest = recent.lowest;
+    let five = held_of(x).five_percent();
+    Limits {
+        lower: next_lower(lowest, lower, g, s, five),
+        upper: next_upper(highest, upper, g, s, five),
+    }
+}
+
+// The newest setpoint before the others, of which the oldest is dropped.
+fn shifted(past: [Kw; REACH], s: Kw) -> [Kw; REACH]
+    ensures { λ r. ⌜ r ≡ s ∷ take (reach - 1) past ⌝ }
+{
+    let mut new = [s; REACH];
+    for i in 0..REACH - 1 {
+        new[i + 1] = past[i];
+    }
+    new
+}
+
+// The state before second 0.
+pub fn new() -> AfrrState
+    ensures { λ r. ⌜ (r ≡ stateOf []) × Ready r ⌝ }
+{
+    let past = [Kw(0); REACH];
+    let limits = Limits {
+        lower: Grains(0),
+        upper: Grains(0),
+    };
+    AfrrState { past, limits }
+}
+
+// The state after a second with the setpoint `s` and the limits `limits`, which stay exact.
+fn moved(state: AfrrState, s: Kw, limits: Limits) -> AfrrState
+    ensures { λ r. ⌜ Moved state s limits r ⌝ }
+{
+    let past = state.past;
+    AfrrState {
+        past: shifted(past, s),
+        limits,
+    }
+}
+
+// The second `x`: its band, and the state after it.
+pub fn step(state: AfrrState, x: Second) -> AfrrStep
+    requires { ⌜ Ready state × Fair x ⌝ }
+    ensures { λ r. ⌜ Stepped state x r ⌝ }
+{
+    let limits = limits_of(state, x);
+    let s = x.setpoint;
+    AfrrStep {
+        band: limits.published(),
+        state: moved(state, s, limits),
+    }
+}
