@@ -1,6 +1,6 @@
 -- The claims hold. Assumes nothing.
 use Prim.Native.Nat.{_*_}
-use mathlib.Core.List.{List, _∷_}
+use mathlib.Core.List.{List}
 use Rattle.numbers.specs.Bounds.{Within}
 use Rattle.power.specs.Units.{perKw}
 use Rattle.power.specs.Inward.{Contains}

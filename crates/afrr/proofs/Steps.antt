@@ -13,7 +13,7 @@ use Rattle.power.specs.declared.kilowatts.Kw.{Kw}
 use Rattle.power.specs.declared.limits.Limits.{Limits}
 use Rattle.power.specs.Units.{perKw, grains, fivePercent}
 use Rattle.power.specs.Inward.{publishedOf, Contains}
-use Rattle.power.specs.Past.{newest, Ranged}
+use Rattle.power.specs.Past.{newest}
 use Rattle.power.proofs.Inside.{published-contains, upper-within, lower-within}
 use Rattle.power.proofs.Past.{newest-more, ranged-none, ranged-cons, ranged-take, ranged-newest}
 use Rattle.afrr.specs.declared.Second.{Second}

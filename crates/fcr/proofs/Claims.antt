@@ -1,25 +1,22 @@
 -- The claims hold. Assumes nothing.
 use mathlib.Core.Path.{_≡_, refl, sym, ap, _∙_}
-use mathlib.Core.List.{List, _∷_}
-use Prim.Native.Nat.{ℕ, _*_, _/_, _-_, _<_}
+use Prim.Native.Nat.{ℕ, _*_, _/_, _-_}
 use native.Mathlib.Nat.{mul-assoc, mul-comm}
 use native.Mathlib.Omega.{arith}
-use lib.IntN.{ℤ, pos, negℤ, _+ℤ_, _-ℤ_, _*ℤ_}
+use lib.IntN.{ℤ, pos, _*ℤ_}
 use lib.Signed.{quotZ}
 use borrow.Author.Tests.{le-leb, lt-leb}
 use Rattle.numbers.specs.Order.{maxZ}
-use Rattle.numbers.proofs.Parts.{up, dn, shows, add-nat, sub-nat, neg-nat, mul-nat, quot-nat}
-use Rattle.power.specs.declared.kilowatts.Kw.{Kw}
-use Rattle.power.specs.Units.{kw, perKw, inGrains}
+use Rattle.numbers.proofs.Parts.{up, dn, shows, mul-nat, quot-nat}
+use Rattle.power.specs.Units.{perKw, inGrains}
 use Rattle.power.specs.Inward.{upperKw}
-use Rattle.power.specs.Past.{negs}
 use Rattle.power.proofs.Inside.{published-contains}
 use Rattle.fcr.specs.Setpoint.{setpointOf}
-use Rattle.fcr.specs.Band.{fullAge, lastAge, weight, fallOf, riseOf, sumTo, weights, toleranceOf, upper, lower, limitsAt}
-use Rattle.fcr.specs.State.{kept}
+use Rattle.fcr.specs.Band.{fullAge, lastAge, weight, fallOf, sumTo, upper, limitsAt}
 use Rattle.fcr.specs.Claims.{Values, Claims}
 use Rattle.fcr.proofs.Cases.{weight-early, weight-late}
-use Rattle.fcr.proofs.Mirror.{rises-mirror}
+use Rattle.fcr.proofs.Mirror.{lower-mirror}
+use Rattle.fcr.proofs.Bound.{upper-small, lower-small}
 use Rattle.fcr.proofs.Edges as edges
 use Rattle.fcr.proofs.Steps as steps
 
@@ -55,25 +52,6 @@ exact d k =
       multiple (dn (inGrains d)) (dn d) k (mul-nat d perKw .dns),
     )
 
-mirror : (h : List Kw) (s held : Kw) → lower h s held ≡ negℤ (upper (negs h) (kw (negℤ (s .0))) held)
-unfolding upper lower
-mirror h s held =
-    other-side (s .0) (toleranceOf (held .0) (weights riseOf (s ∷ h)))
-    ∙ ap (λ (w : ℤ). negℤ (inGrains (negℤ (s .0)) +ℤ toleranceOf (held .0) w)) (sym (rises-mirror kept (s ∷ h)))
-  where
-    other-side : (x t : ℤ) → inGrains x -ℤ t ≡ negℤ (inGrains (negℤ x) +ℤ t)
-    other-side x t =
-        omega (
-          arith,
-          shows,
-          sub-nat (inGrains x) t,
-          mul-nat x perKw,
-          neg-nat (inGrains (negℤ x) +ℤ t),
-          add-nat (inGrains (negℤ x)) t,
-          mul-nat (negℤ x) perKw,
-          neg-nat x,
-        )
-
 pub claims : Claims
 claims =
     record {
@@ -81,9 +59,9 @@ claims =
       published = λ h s held p. published-contains (limitsAt h s held) (s .0) (edges.contains h s held p);
       whole-early = λ a d p. weight-early a d (le-leb a fullAge p);
       whole-late = λ a d p. rw (weight-late a d (lt-leb a fullAge p)) (exact d (lastAge - a));
-      mirror = mirror;
-      upper-small = edges.upper-small;
-      lower-small = edges.lower-small;
+      mirror = lower-mirror;
+      upper-small = upper-small;
+      lower-small = lower-small;
       follows = steps.follows;
       ready = steps.state-ready;
     }

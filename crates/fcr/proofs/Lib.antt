@@ -2,6 +2,7 @@ pub mod Cases
 pub mod Range
 pub mod Summed
 pub mod Mirror
+pub mod Pairs
 pub mod Bound
 pub mod Moved
 pub mod Edges

@@ -1,5 +1,5 @@
 -- What the FCR state holds after a past, and what a step answers.
-use Prim.Native.Nat.{ℕ, suc}
+use Prim.Native.Nat.{ℕ, suc, _*_}
 use mathlib.Core.Path.{_≡_}
 use mathlib.Core.List.{List, _∷_}
 use lib.IntN.{ℤ, pos, _+ℤ_, _-ℤ_}
@@ -8,7 +8,7 @@ use lib.Signed.{_≤ℤ_}
 use Rattle.numbers.specs.Bounds.{Within}
 use Rattle.power.specs.declared.kilowatts.Kw.{Kw}
 use Rattle.power.specs.declared.limits.Limits.{Limits}
-use Rattle.power.specs.Units.{grains, inGrains}
+use Rattle.power.specs.Units.{perKw, grains, inGrains}
 use Rattle.power.specs.Inward.{Published}
 use Rattle.power.specs.Past.{newest, Ranged}
 use Rattle.fcr.specs.declared.FcrState.{FcrState}
@@ -39,9 +39,9 @@ pub record Fair (s held : Kw) : Type 0 where
 unfoldable pub stepIn : FcrState → Kw → Kw → FcrStep
 stepIn st s held = record { band = bandAt (st .past) s held; state = record { past = s ∷ take lastAge (st .past) } }
 
--- no published limit is farther from 0 than this, in kW
+-- no limit is farther from 0 than this, in kW
 abbrev pub limitMost : ℕ
-limitMost = 63000000
+limitMost = 18733334
 
 pub record Stepped (st : FcrState) (s held : Kw) (r : FcrStep) : Type 0 where
   pub is : r ≡ stepIn st s held
@@ -56,15 +56,15 @@ pub record Asked (held deviation r : ℤ) : Type 0 where
   pub is : r ≡ setpointOf held deviation
   pub small : Within 1000000 r
 
--- the largest change in kW; the largest weight of a change and the largest sum of weights in grains
+-- the largest change in kW; the largest weight of one and the largest sum of weights, in grains: 2,000,000 kW and 19,733,333 kW
 abbrev pub changeMost : ℕ
 changeMost = 2000000
 
 abbrev pub weightMost : ℕ
-weightMost = 1080000000
+weightMost = changeMost * perKw
 
 abbrev pub sumMost : ℕ
-sumMost = 33480000000
+sumMost = 10656000000
 
 -- the sums of the weights, and the state's next past
 pub record Weighed (before : List Kw) (s : Kw) (r : Sums) : Type 0 where

@@ -6,7 +6,7 @@ ghost use lib.IntN.{pos, negℤ, _*ℤ_};
 ghost use lib.Signed.{quotZ};
 ghost use Rattle.numbers.specs.Bounds.{Within};
 ghost use Rattle.power.specs.Past.{Ranged};
-ghost use Rattle.fcr.specs.Setpoint.{fullActivation, setpointOf};
+ghost use Rattle.fcr.specs.Setpoint.{fullActivation};
 ghost use Rattle.fcr.specs.Band.{lastAge, weight, fallOf, riseOf, toleranceOf};
 ghost use Rattle.fcr.specs.State.{changeMost, weightMost, sumMost, stateOf, Ready, Fair, Asked, Stepped, Weighed, limitsBy};
 use power::Band;

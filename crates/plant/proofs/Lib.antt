@@ -1,3 +1,4 @@
 pub mod Passed
 pub mod Past
 pub mod Sizes
+pub mod Steps

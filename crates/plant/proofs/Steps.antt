@@ -1,0 +1,141 @@
+-- A record that its own numbers don't turn down, by what the kinds' steps give. Assumes nothing.
+use mathlib.Core.Path.{_≡_, refl, sym, ap, _∙_, subst}
+use mathlib.Core.List.{List}
+use Prim.Native.Nat.{ℕ, zero, suc, _+_}
+use native.Mathlib.Omega.{arith}
+use lib.IntN.{ℤ}
+use Rattle.numbers.specs.Bounds.{Within}
+use Rattle.numbers.proofs.Fit.{within-le}
+use Rattle.power.specs.declared.kilowatts.Kw.{Kw}
+use Rattle.power.specs.Units.{kw}
+use Rattle.record.specs.declared.Record.{Record}
+use Rattle.row.specs.declared.Row.{Row}
+use Rattle.sharing.specs.declared.kinds.Kind.{Kind}
+use Rattle.sharing.specs.Sizes as sharing
+use Rattle.sharing.proofs.Sizes as sharing-sizes
+use Rattle.fcr.specs.declared.FcrStep.{FcrStep}
+use Rattle.fcr.specs.Setpoint.{setpointOf}
+use Rattle.fcr.specs.State as fcr
+use Rattle.fcr.proofs.Range.{setpoint-within}
+use Rattle.afrr.specs.declared.AfrrStep.{AfrrStep}
+use Rattle.afrr.specs.State as afrr
+use Rattle.mfrr.specs.declared.MfrrState.{MfrrState}
+use Rattle.plant.specs.declared.Kinds.{Kinds}
+use Rattle.plant.specs.declared.PlantAnswer.the-variants as answer
+use Rattle.plant.specs.declared.PlantState.{PlantState}
+use Rattle.plant.specs.declared.PlantStep.{PlantStep}
+use Rattle.plant.specs.Seconds.{fcrSetpoint, afrrSecond}
+use Rattle.plant.specs.Rows.{offNumber, rowBy, sharedDifference}
+use Rattle.plant.specs.State.{fcrStepIn, afrrStepIn, kindsWith, kindsIn, grownIn, refusedIn, stepBy, kindsStepIn, Ready, Added, Shareable, Given, StepFacts, Going, KindsStepped}
+
+-- ---- by a number
+
+pub by-refusal : (n : ℕ) (st : PlantState) (given : PlantStep) → (n ≡ 0 → ⊥) → refusedIn st n ≡ stepBy n st given
+by-refusal zero st given h = absurd (h refl)
+by-refusal (suc n) st given h = refl
+
+pub by-none : (n : ℕ) (st : PlantState) (given : PlantStep) → n ≡ 0 → given ≡ stepBy n st given
+by-none n st given e = rw e
+
+-- a refusal keeps the state, and gives no row
+pub refused-facts : (st : PlantState) (n : ℕ) (x : Record) (m w : ℤ) → Ready st → StepFacts x m w (refusedIn st n)
+refused-facts st n x m w r = record { ready = r; given = λ e. absurd (never e) }
+  where
+    never : {q : Row} → answer.Refused n ≡ answer.Row q → ⊥
+    never e = let z : _≡_ {A = ℕ} 0 1 = cc in omega arith
+
+-- ---- with what mFRR gave
+
+module _ (st : PlantState) (x : Record) (k : Kind) (next : MfrrState) (m w : ℤ) (going : Going st x k next m w) where
+  module _
+      (s : Kw) (f : FcrStep) (a : AfrrStep) (ks : Kinds)
+      (es : s .0 ≡ setpointOf (x .«fcr_held» .0) (x .deviation .0))
+      (ef : fcr.Stepped (st .fcr) s (x .«fcr_held») f)
+      (ea : afrr.Stepped (st .afrr) (afrrSecond x) a)
+      (ek : ks ≡ kindsWith x s (f .band) (a .band) k)
+  where
+    fcr-is : f ≡ fcrStepIn st x
+    fcr-is = ef .is ∙ (λ i. fcr.stepIn (st .fcr) (kw (es i)) (x .«fcr_held»))
+
+    kinds-is : ks ≡ kindsIn st x k
+    kinds-is = ek ∙ (λ i. kindsWith x (kw (es i)) (fcr-is i .band) (ea .is i .band) k)
+
+    pub refused : (n : ℕ) → n ≡ offNumber ks → (n ≡ 0 → ⊥) → KindsStepped st x k next m w (refusedIn st n)
+    unfolding kindsStepIn
+    refused n e h =
+        record {
+          is = rw (← kinds-is, ← e) (by-refusal n st _ h);
+          facts = refused-facts st n x m w (going .called .ready);
+        }
+
+    pub shareable : Shareable x ks m w
+    unfolding kindsWith
+    shareable =
+        let p = going .called .passed in
+        record {
+          measured = p .measured;
+          working-point = p .working-point;
+          kinds =
+              rw ek
+              (record {
+                fcr =
+                    record {
+                      setpoint = rw es (setpoint-within _ (x .deviation .0) (p .fcr-held .range));
+                      low = within-le fcr.limitMost sharing.mostLimit _ (ef .small .0) tt;
+                      high = within-le fcr.limitMost sharing.mostLimit _ (ef .small .1) tt;
+                    };
+                afrr =
+                    record {
+                      setpoint = p .afrr-setpoint;
+                      low = within-le afrr.limitMost sharing.mostLimit _ (ea .small .0) tt;
+                      high = within-le afrr.limitMost sharing.mostLimit _ (ea .small .1) tt;
+                    };
+                mfrr = going .sized;
+              });
+          added = going .called .added;
+        }
+
+    module _ (r : Row) (er : r ≡ rowBy x ks m w) where
+      abbrev taken : PlantStep
+      taken =
+          record {
+            answer = answer.Row r;
+            state = record { seconds = st .seconds + 1; fcr = f .state; afrr = a .state; mfrr = next };
+          }
+
+      row-given : Given x m w r
+      row-given =
+          record {
+            measured = shareable .measured;
+            working-point = shareable .working-point;
+            sized = λ D h. rw er (sharing-sizes.sized D (sharedDifference x m w) (ks .fcr) (ks .afrr) (ks .mfrr) h (shareable .kinds));
+          }
+
+      taken-is : offNumber ks ≡ 0 → taken ≡ kindsStepIn st x k next m w
+      unfolding kindsStepIn grownIn
+      taken-is e =
+          (λ i. record {
+            answer = answer.Row ((er ∙ ap (λ (l : Kinds). rowBy x l m w) kinds-is) i);
+            state = record { seconds = st .seconds + 1; fcr = fcr-is i .state; afrr = ea .is i .state; mfrr = next };
+          })
+          ∙ by-none (offNumber (kindsIn st x k)) st _ (ap offNumber (sym kinds-is) ∙ e)
+
+      pub accepted : offNumber ks ≡ 0 → KindsStepped st x k next m w taken
+      accepted e =
+          record {
+            is = taken-is e;
+            facts =
+                record {
+                  ready =
+                      record {
+                        count = omega (arith, going .called .passed .seconds);
+                        fcr = ef .ready;
+                        afrr = ea .ready;
+                        mfrr = going .next-ready;
+                      };
+                  given = λ {q} e. subst (Given x m w) (same q e) row-given;
+                };
+          }
+        where
+          same : (q : Row) → answer.Row r ≡ answer.Row q → r ≡ q
+          same q e = cc
