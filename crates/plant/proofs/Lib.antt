@@ -2,3 +2,4 @@ pub mod Passed
 pub mod Past
 pub mod Sizes
 pub mod Steps
+pub mod Run

@@ -90,12 +90,12 @@ afrr-second-fair t x p =
       down-sign = p .afrr-down .sign;
     }
 
-afrr-fair : (h : History) → Accepted h → afrr.AllFair (afrrPast h)
+pub afrr-fair : (h : History) → Accepted h → afrr.AllFair (afrrPast h)
 unfolding Accepted
 afrr-fair [] a = tt
 afrr-fair (x ∷ h) a = (afrr-second-fair (length h) x (clear h x (a .0) .passed-1-to-7), afrr-fair h (a .1))
 
-mfrr-accepted : (h : History) → Accepted h → mfrr-refusals.Accepted (mfrrPast h)
+pub mfrr-accepted : (h : History) → Accepted h → mfrr-refusals.Accepted (mfrrPast h)
 unfolding Accepted mfrr-refusals.Accepted
 mfrr-accepted [] a = tt
 mfrr-accepted (x ∷ h) a = (clear h x (a .0) .passed-8-to-10, mfrr-accepted h (a .1))

@@ -1,14 +1,21 @@
 -- A record that its own numbers don't turn down, by what the kinds' steps give. Assumes nothing.
 use mathlib.Core.Path.{_≡_, refl, sym, ap, _∙_, subst}
+use mathlib.Core.Bool.{Bool, true, false, cond}
 use mathlib.Core.List.{List}
 use Prim.Native.Nat.{ℕ, zero, suc, _+_}
 use native.Mathlib.Omega.{arith}
+use lib.Dec.{eqb}
 use lib.IntN.{ℤ}
+use lib.ListN.{length}
 use Rattle.numbers.specs.Bounds.{Within}
 use Rattle.numbers.proofs.Fit.{within-le}
 use Rattle.power.specs.declared.kilowatts.Kw.{Kw}
 use Rattle.power.specs.Units.{kw}
+use Rattle.power.specs.declared.limits.Band.{Band}
 use Rattle.record.specs.declared.Record.{Record}
+use Rattle.record.specs.declared.Reading.{Reading}
+use Rattle.record.specs.declared.Reading.the-variants as reading
+use Rattle.record.specs.Record.{size, recordOf, readingOf}
 use Rattle.row.specs.declared.Row.{Row}
 use Rattle.sharing.specs.declared.kinds.Kind.{Kind}
 use Rattle.sharing.specs.Sizes as sharing
@@ -20,13 +27,19 @@ use Rattle.fcr.proofs.Range.{setpoint-within}
 use Rattle.afrr.specs.declared.AfrrStep.{AfrrStep}
 use Rattle.afrr.specs.State as afrr
 use Rattle.mfrr.specs.declared.MfrrState.{MfrrState}
+use Rattle.mfrr.specs.declared.MfrrStep.{MfrrStep}
+use Rattle.mfrr.specs.declared.MfrrAnswer.the-variants as mfrr-answer
+use Rattle.mfrr.specs.Signal as mfrr-signal
+use Rattle.mfrr.specs.State as mfrr
 use Rattle.plant.specs.declared.Kinds.{Kinds}
 use Rattle.plant.specs.declared.PlantAnswer.the-variants as answer
 use Rattle.plant.specs.declared.PlantState.{PlantState}
 use Rattle.plant.specs.declared.PlantStep.{PlantStep}
-use Rattle.plant.specs.Seconds.{fcrSetpoint, afrrSecond}
+use Rattle.plant.specs.Seconds.{fcrSetpoint, afrrSecond, mfrrSecond}
+use Rattle.plant.specs.Refusals.{recordNumber}
 use Rattle.plant.specs.Rows.{offNumber, rowBy, sharedDifference}
-use Rattle.plant.specs.State.{fcrStepIn, afrrStepIn, kindsWith, kindsIn, grownIn, refusedIn, stepBy, kindsStepIn, Ready, Added, Shareable, Given, StepFacts, Going, KindsStepped}
+use Rattle.plant.specs.State.{fcrStepIn, afrrStepIn, kindsWith, kindsIn, grownIn, refusedIn, stepBy, kindsStepIn, mfrrKind, calledIn, recordStepIn, stepIn, Ready, Added, Shareable, Given, StepFacts, Called, CalledIs, Going, KindsStepped, Stepped}
+use Rattle.plant.proofs.Passed.{passed}
 
 -- ---- by a number
 
@@ -52,8 +65,7 @@ module _ (st : PlantState) (x : Record) (k : Kind) (next : MfrrState) (m w : ℤ
       (es : s .0 ≡ setpointOf (x .«fcr_held» .0) (x .deviation .0))
       (ef : fcr.Stepped (st .fcr) s (x .«fcr_held») f)
       (ea : afrr.Stepped (st .afrr) (afrrSecond x) a)
-      (ek : ks ≡ kindsWith x s (f .band) (a .band) k)
-  where
+      (ek : ks ≡ kindsWith x s (f .band) (a .band) k) where
     fcr-is : f ≡ fcrStepIn st x
     fcr-is = ef .is ∙ (λ i. fcr.stepIn (st .fcr) (kw (es i)) (x .«fcr_held»))
 
@@ -139,3 +151,84 @@ module _ (st : PlantState) (x : Record) (k : Kind) (next : MfrrState) (m w : ℤ
         where
           same : (q : Row) → answer.Row r ≡ answer.Row q → r ≡ q
           same q e = cc
+
+-- ---- mFRR's answer
+
+module _ (st : PlantState) (x : Record) (m w : ℤ) (called : Called st x m w) (p : MfrrStep) (ep : mfrr.Stepped (st .mfrr) (st .seconds) (mfrrSecond x) p) where
+  pub call-refused : {n r : ℕ} → p .answer ≡ mfrr-answer.Refused n → r ≡ mfrr.numberIn (p .answer) → CalledIs st x m w (refusedIn st r)
+  unfolding calledIn
+  call-refused {n} {r} e h =
+      record { is = rw (← (ep .is), h, e); facts = refused-facts st r x m w (called .ready) }
+
+  module _ {s : Kw} {b : Band} (e : p .answer ≡ mfrr-answer.Given s b) {k : Kind} (ek : k ≡ mfrrKind x s b) where
+    pub going : Going st x k (p .state) m w
+    going =
+        let g = ep .given e in
+        record {
+          called = called;
+          next-ready = ep .ready;
+          sized =
+              rw ek
+              (record {
+                setpoint = within-le mfrr-signal.powerMost sharing.mostSetpoint _ (g .setpoint-range) tt;
+                low = within-le mfrr.limitMost sharing.mostLimit _ (g .small .0) tt;
+                high = within-le mfrr.limitMost sharing.mostLimit _ (g .small .1) tt;
+              });
+        }
+
+    pub call-given : (r : PlantStep) → KindsStepped st x k (p .state) m w r → CalledIs st x m w r
+    unfolding calledIn
+    call-given r q = record { is = q .is ∙ rw (← (ep .is), e, ek); facts = q .facts }
+
+-- ---- the record of the bytes
+
+fields-are : (s : List ℕ) (x : Record) → readingOf s ≡ reading.Fields x → x ≡ recordOf s
+unfolding readingOf
+fields-are s x e = go (eqb (length s) size) e
+  where
+    go : (t : Bool) → cond t (reading.Fields (recordOf s)) (reading.Refused 12) ≡ reading.Fields x → x ≡ recordOf s
+    go true e = cc
+    go false e = let z : _≡_ {A = ℕ} 0 1 = cc in absurd (omega arith)
+
+refused-is : (s : List ℕ) (n : ℕ) → readingOf s ≡ reading.Refused n → n ≡ 12
+unfolding readingOf
+refused-is s n e = go (eqb (length s) size) e
+  where
+    go : (t : Bool) → cond t (reading.Fields (recordOf s)) (reading.Refused 12) ≡ reading.Refused n → n ≡ 12
+    go true e = let z : _≡_ {A = ℕ} 0 1 = cc in absurd (omega arith)
+    go false e = cc
+
+module _ (st : PlantState) (s : List ℕ) (m w : ℤ) (r : Reading) (er : r ≡ readingOf s) where
+  pub twelve : {n : ℕ} → r ≡ reading.Refused n → Ready st → Stepped st s m w (refusedIn st 12)
+  unfolding stepIn
+  twelve {n} e ready =
+      let n-is = refused-is s n (sym er ∙ e) in
+      record { is = rw (← er, e, n-is); facts = refused-facts st 12 (recordOf s) m w ready }
+
+  module _ {x : Record} (e : r ≡ reading.Fields x) where
+    at-record : recordStepIn st x m w ≡ stepIn st s m w
+    unfolding stepIn
+    at-record = rw (← er, e)
+
+    record-is : x ≡ recordOf s
+    record-is = fields-are s x (sym er ∙ e)
+
+    pub number-refused : (n : ℕ) → n ≡ recordNumber (st .seconds) x → (n ≡ 0 → ⊥) → Ready st → Stepped st s m w (refusedIn st n)
+    unfolding recordStepIn
+    number-refused n q h ready =
+        record {
+          is = rw q (by-refusal _ st _ (λ z. h (q ∙ z))) ∙ at-record;
+          facts = refused-facts st n (recordOf s) m w ready;
+        }
+
+    pub number-none : {n : ℕ} → n ≡ recordNumber (st .seconds) x → n ≡ 0 → Ready st → Added m w → Called st x m w
+    number-none q z ready added =
+        record { ready = ready; passed = passed (st .seconds) x (sym q ∙ z); added = added }
+
+    pub number-called : {n : ℕ} → n ≡ recordNumber (st .seconds) x → n ≡ 0 → (p : PlantStep) → CalledIs st x m w p → Stepped st s m w p
+    unfolding recordStepIn
+    number-called q z p c =
+        record {
+          is = c .is ∙ by-none _ st _ (sym q ∙ z) ∙ at-record;
+          facts = subst (λ (y : Record). StepFacts y m w p) record-is (c .facts);
+        }

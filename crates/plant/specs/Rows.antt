@@ -94,6 +94,11 @@ abbrev pub answerBy : ℕ → Row → PlantAnswer
 answerBy zero r = answer.Row r
 answerBy (suc n) r = answer.Refused (suc n)
 
+-- 01's number for an answer: 0 with a row
+abbrev pub numberIn : PlantAnswer → ℕ
+numberIn (answer.Row r) = 0
+numberIn (answer.Refused n) = n
+
 unfoldable pub answerAt : History → List ℕ → ℤ → ℤ → PlantAnswer
 answerAt h s m w = answerBy (numberAt h s) (rowAt h (recordOf s) m w)
 

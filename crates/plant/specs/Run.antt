@@ -1,20 +1,21 @@
 -- A list of plant seconds from a fresh state, refused ones included wherever they fall.
-use Prim.Native.Nat.{ℕ, _≤_}
+use Prim.Native.Nat.{ℕ, _*_, _≤_}
 use mathlib.Core.Path.{_≡_}
 use mathlib.Core.Logic.{_↔_}
 use mathlib.Core.Bool.{true}
 use mathlib.Core.List.{List, [], _∷_}
-use lib.IntN.{ℤ, natAbs}
+use lib.IntN.{ℤ, natAbs, _+ℤ_}
 use Rattle.record.specs.declared.Record.{Record}
 use Rattle.row.specs.Row.{kindsOf, AllInBand, sumActuals}
 use Rattle.sharing.specs.declared.kinds.Kind.{Kind}
+use Rattle.sharing.specs.Sizes.{mostPower as mostShared, SizedRow}
 use Rattle.sharing.specs.Rows.{someOn, errorOf, totalOf, three}
 use Rattle.plant.specs.declared.PlantAnswer.{PlantAnswer}
 use Rattle.plant.specs.declared.PlantState.{PlantState}
 use Rattle.plant.specs.declared.PlantStep.{PlantStep}
 use Rattle.plant.specs.Seconds.{History}
-use Rattle.plant.specs.Rows.{kindsAt, recordNumberAt, sharedDifference, rowAt, answerAt, grown, stateOf}
-use Rattle.plant.specs.State.{Ready, stepIn}
+use Rattle.plant.specs.Rows.{kindsAt, recordNumberAt, numberAt, numberIn, sharedDifference, rowAt, answerAt, grown, stateOf}
+use Rattle.plant.specs.State.{Ready, Added, stepIn}
 
 -- every second of a history was accepted after those before it
 unfoldable pub Accepted : History → Type 0
@@ -55,8 +56,9 @@ pub record EveryList (ss : List PlantSecond) : Type 0 where
   pub accepted-all : Accepted (accepted [] ss)
   pub ready : Ready (after (stateOf []) ss)
 
--- one second after a history of accepted ones. The proof is `over-past` of proofs/Past.antt
+-- one second after a history of accepted ones. The proof is `over-past` of proofs/Run.antt
 pub record OverPast (h : History) (s : List ℕ) (m w : ℤ) : Type 0 where
+  pub number : numberIn (stepIn (stateOf h) s m w .answer) ≡ numberAt h s
   pub answer : stepIn (stateOf h) s m w .answer ≡ answerAt h s m w
   pub state : stepIn (stateOf h) s m w .state ≡ stateOf (grown h s)
   pub stays : Accepted (grown h s)
@@ -71,8 +73,13 @@ errorAt h x m w = errorOf (sharedDifference x m w) (kindList h x)
 abbrev pub totalAt : History → Record → ℤ → ℤ → ℕ
 totalAt h x m w = totalOf (sharedDifference x m w) (kindList h x)
 
--- a row, wherever a kind is on: the actual values add up to measured - working point as shared, and "all kinds lie within their bands exactly
--- when the error lies within the summed bands". The proof is `banded` of proofs/Run.antt
-pub record Banded (h : History) (x : Record) (m w : ℤ) : Type 0 where
+-- what holds of an accepted second's row. The proof is `row-holds` of proofs/Run.antt
+pub record RowHolds (h : History) (x : Record) (m w : ℤ) : Type 0 where
+  -- the actual values and open make up measured - working point as shared
+  pub balance : sumActuals (kindsOf (rowAt h x m w)) +ℤ rowAt h x m w .«open» .0 ≡ sharedDifference x m w
+  -- wherever a kind is on, the actual values do so by themselves, and "all kinds lie within their bands exactly when the error lies within the
+  -- summed bands"
   pub whole : someOn (kindList h x) ≡ true → sumActuals (kindsOf (rowAt h x m w)) ≡ sharedDifference x m w
   pub within : someOn (kindList h x) ≡ true → AllInBand (kindsOf (rowAt h x m w)) ↔ (natAbs (errorAt h x m w) ≤ totalAt h x m w)
+  -- every figure fits a signed 32-bit number: none is above 124,000,000
+  pub sized : Added m w → SizedRow (2 * mostShared) (rowAt h x m w)

@@ -19,7 +19,7 @@ ghost use mathlib.Core.List.{[]};
 ghost use lib.IntN.{pos};
 ghost use Rattle.plant.specs.Seconds.{afrrSecond};
 ghost use Rattle.plant.specs.State.{kindsWith, refusedIn, Ready, Added, Shareable, Going, KindsStepped, Called, CalledIs, Stepped};
-ghost use Rattle.plant.specs.Rows.{rowBy, stateOf};
+ghost use Rattle.plant.specs.Rows.{numberIn, rowBy, stateOf};
 
 // What a plant's second needs of those before it: how many were accepted, and each kind's state.
 pub struct PlantState {
@@ -45,6 +45,16 @@ pub struct Kinds {
     pub fcr: Kind,
     pub afrr: Kind,
     pub mfrr: Kind,
+}
+
+// The refusal number of an answer, 0 of a row.
+pub fn number_in(answer: PlantAnswer) -> u8
+    ensures { λ r. ⌜ r ≡ numberIn answer ⌝ }
+{
+    match answer {
+        PlantAnswer::Row(_) => 0,
+        PlantAnswer::Refused(number) => number,
+    }
 }
 
 impl PlantState {

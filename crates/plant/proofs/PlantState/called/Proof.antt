@@ -1,49 +1,50 @@
+-- `plant::PlantState::called` meets its contract. Assumes nothing.
+use mathlib.Core.Path.{_≡_}
+use Rattle.power.specs.declared.kilowatts.Kw.{Kw}
+use Rattle.plant.proofs.Steps.{call-refused, going, call-given}
 use borrow.Author.Needs.{needs}
 use Rattle.plant.proofs.PlantState.called.Statement.{statement}
 use Rattle.plant.proofs.PlantState.called.Tie as tie
-use Rattle.plant.proofs.PlantState.called.Reads as reads
-use Rattle.plant.proofs.PlantState.called.Lts as lts
-use Rattle.mfrr.proofs.MfrrState.step.Reads as step-reads
-use Rattle.mfrr.proofs.number_in.Reads as number-in-reads
-use Rattle.plant.proofs.PlantState.refused.Reads as refused-reads
-use Rattle.plant.proofs.PlantState.with_mfrr.Reads as with-mfrr-reads
-use Rattle.record.proofs.kind_bits.Reads as kind-bits-reads
 
--- src/lib.rt:102:13
 step-requires : tie.Need-step-requires
 step-requires c κs = search needs
 
--- src/lib.rt:105:33
 enum-known-answer : tie.Need-enum-known-answer
 enum-known-answer c = search needs
 
--- src/lib.rt:106:33
 enum-told : tie.Need-enum-told
 enum-told c = search needs
 
--- src/lib.rt:106:33
 number-in-requires : tie.Need-number-in-requires
 number-in-requires c κs = search needs
 
--- src/lib.rt:106:13
 refused-requires : tie.Need-refused-requires
 refused-requires c κs = search needs
 
--- src/lib.rt:106:13
 returns : tie.Need-returns
-returns c = ?
+returns c =
+    let s = c .before .before .before .before .before in
+    let g = s .before .before .before .args in
+    rw (c .refused .ensures)
+    (call-refused (g .self) (g .x) (g .measured .0) (g .working-point .0) (s .before .before .before .pre) (s .step .result) (s .step .ensures)
+    (c .before .before .enum-told .given .1) (c .before .number-in .ensures))
 
--- src/lib.rt:108:13
 kind-bits-requires : tie.Need-kind-bits-requires
 kind-bits-requires c κs = search needs
 
--- src/lib.rt:114:9
 with-mfrr-requires : tie.Need-with-mfrr-requires
-with-mfrr-requires c κs = ?
+with-mfrr-requires c κs =
+    let s = c .before .before .before .before .before in
+    let g = s .before .before .before .args in
+    going (g .self) (g .x) (g .measured .0) (g .working-point .0) (s .before .before .before .pre) (s .step .result) (s .step .ensures)
+    (c .before .before .answer .given .1) (rw (c .kind-bits .ensures))
 
--- src/lib.rt:97:5
 returns-2 : tie.Need-returns-2
-returns-2 c = ?
+returns-2 c =
+    let s = c .before .before .before .before .before .before in
+    let g = s .before .before .before .args in
+    call-given (g .self) (g .x) (g .measured .0) (g .working-point .0) (s .before .before .before .pre) (s .step .result) (s .step .ensures)
+    (c .before .before .before .answer .given .1) (rw (c .before .kind-bits .ensures)) (c .with-mfrr .result) (c .with-mfrr .ensures)
 
 pub called-spec : {M : Type 1} → statement M
 called-spec =

@@ -1,52 +1,60 @@
+-- `plant::PlantState::second_with` meets its contract. Assumes nothing.
+use denote.Ref.{now}
+use Rattle.plant.proofs.Steps.{twelve, number-refused, number-none, number-called}
 use borrow.Author.Needs.{needs}
 use Rattle.plant.proofs.PlantState.second_with.Statement.{statement}
 use Rattle.plant.proofs.PlantState.second_with.Tie as tie
-use Rattle.plant.proofs.PlantState.second_with.Reads as reads
-use Rattle.plant.proofs.PlantState.second_with.Lts as lts
-use Rattle.plant.proofs.PlantState.called.Reads as called-reads
-use Rattle.plant.proofs.PlantState.refused.Reads as refused-reads
-use Rattle.plant.proofs.refusal.record_number.Reads as record-number-reads
-use Rattle.record.proofs.read.Reads as read-reads
 
--- src/lib.rt:76:13
 read-requires : tie.Need-read-requires
 read-requires c κs = search needs
 
--- src/lib.rt:77:29
 enum-known-reading : tie.Need-enum-known-reading
 enum-known-reading c = search needs
 
--- src/lib.rt:78:13
 enum-told : tie.Need-enum-told
 enum-told c = search needs
 
--- src/lib.rt:78:13
 refused-requires : tie.Need-refused-requires
 refused-requires c κs = search needs
 
--- src/lib.rt:78:13
 returns : tie.Need-returns
-returns c = ?
+returns c =
+    let r = c .before .before .before in
+    let s = r .before .before in
+    rw (c .refused .ensures)
+    (twelve (s .args .self) (now (s .args .bytes)) (s .args .measured .0) (s .args .working-point .0) (r .read .result) (r .read .ensures)
+    (c .before .enum-told .given .1) (s .pre .0))
 
--- src/lib.rt:80:13
 record-number-requires : tie.Need-record-number-requires
 record-number-requires c κs = search needs
 
--- src/lib.rt:82:13
 refused-requires-2 : tie.Need-refused-requires-2
 refused-requires-2 c κs = search needs
 
--- src/lib.rt:82:13
 returns-2 : tie.Need-returns-2
-returns-2 c = ?
+returns-2 c =
+    let n = c .before .before in
+    let r = n .before .before .before .before in
+    let s = r .before .before in
+    rw (c .refused2 .ensures)
+    (number-refused (s .args .self) (now (s .args .bytes)) (s .args .measured .0) (s .args .working-point .0) (r .read .result) (r .read .ensures)
+    (n .before .before .reading .given .1) _ (n .record-number .ensures) (c .before .if1 .taken) (s .pre .0))
 
--- src/lib.rt:84:9
 called-requires : tie.Need-called-requires
-called-requires c κs = ?
+called-requires c κs =
+    let n = c .before in
+    let r = n .before .before .before .before in
+    let s = r .before .before in
+    number-none (s .args .self) (now (s .args .bytes)) (s .args .measured .0) (s .args .working-point .0) (r .read .result) (r .read .ensures)
+    (n .before .before .reading .given .1) (n .record-number .ensures) (c .if1 .left) (s .pre .0) (s .pre .1)
 
--- src/lib.rt:72:5
 returns-3 : tie.Need-returns-3
-returns-3 c = ?
+returns-3 c =
+    let n = c .before .before in
+    let r = n .before .before .before .before in
+    let s = r .before .before in
+    number-called (s .args .self) (now (s .args .bytes)) (s .args .measured .0) (s .args .working-point .0) (r .read .result) (r .read .ensures)
+    (n .before .before .reading .given .1) (n .record-number .ensures) (c .before .if1 .left) (c .called .result) (c .called .ensures)
 
 pub second-with-spec : {M : Type 1} → statement M
 second-with-spec =

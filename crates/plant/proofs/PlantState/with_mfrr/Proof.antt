@@ -1,60 +1,97 @@
+-- `plant::PlantState::with_mfrr` meets its contract. Assumes nothing.
+use mathlib.Core.Path.{_≡_, ap, _∙_, subst, sym}
+use native.Mathlib.Omega.{arith}
+use Rattle.afrr.specs.State as afrr
+use Rattle.afrr.specs.declared.Second.{Second}
+use Rattle.plant.specs.Seconds.{afrrSecond}
+use Rattle.plant.proofs.Past.{afrr-second-fair}
+use Rattle.plant.proofs.Steps.{refused, shareable, accepted}
 use borrow.Author.Needs.{needs}
 use Rattle.plant.proofs.PlantState.with_mfrr.Statement.{statement}
 use Rattle.plant.proofs.PlantState.with_mfrr.Tie as tie
-use Rattle.plant.proofs.PlantState.with_mfrr.Reads as reads
-use Rattle.plant.proofs.PlantState.with_mfrr.Lts as lts
-use Rattle.afrr.proofs.step.Reads as step-reads
-use Rattle.fcr.proofs.setpoint.Reads as setpoint-reads
-use Rattle.fcr.proofs.step.Reads as step-reads′
-use Rattle.plant.proofs.PlantState.refused.Reads as refused-reads
-use Rattle.plant.proofs.afrr_second.Reads as afrr-second-reads
-use Rattle.plant.proofs.kinds_of.Reads as kinds-of-reads
-use Rattle.plant.proofs.refusal.off_number.Reads as off-number-reads
-use Rattle.plant.proofs.row_with.Reads as row-with-reads
 
--- src/lib.rt:123:13
 setpoint-requires : tie.Need-setpoint-requires
 setpoint-requires c κs = search needs
 
--- src/lib.rt:125:13
 step-requires : tie.Need-step-requires
 step-requires c κs = search needs
 
--- src/lib.rt:127:41
 afrr-second-requires : tie.Need-afrr-second-requires
 afrr-second-requires c κs = search needs
 
--- src/lib.rt:127:13
 step-requires-2 : tie.Need-step-requires-2
-step-requires-2 c κs = ?
+step-requires-2 c κs =
+    let s = c .before .before .before .before .before .before in
+    (s .pre .called .ready .afrr, rw (c .afrr-second .ensures) (afrr-second-fair (s .args .self .seconds) (s .args .x) (s .pre .called .passed)))
 
--- src/lib.rt:128:13
 kinds-of-requires : tie.Need-kinds-of-requires
 kinds-of-requires c κs = search needs
 
--- src/lib.rt:129:13
 off-number-requires : tie.Need-off-number-requires
 off-number-requires c κs = search needs
 
--- src/lib.rt:131:13
 refused-requires : tie.Need-refused-requires
 refused-requires c κs = search needs
 
--- src/lib.rt:131:13
+-- the steps of FCR and aFRR, as they stand before the kinds' numbers
+abbrev start : tie.After-kinds-of → tie.Start
+start l = l .before .before .before .before .before .before .before .before
+
+afrr-stepped : (l : tie.After-kinds-of) → afrr.Stepped (start l .args .self .afrr) (afrrSecond (start l .args .x)) (l .before .step2 .result)
+afrr-stepped l =
+    subst (λ (y : Second). afrr.Stepped (start l .args .self .afrr) y (l .before .step2 .result)) (l .before .before .afrr-second .ensures) (l .before .step2 .ensures)
+
 returns : tie.Need-returns
-returns c = ?
+returns c =
+    let l = c .before .before .before in
+    let g = start l .args in
+    rw (c .refused .ensures)
+    (refused (g .self) (g .x) (g .mfrr) (g .next) (g .measured .0) (g .working-point .0) (start l .pre)
+    (l .before .before .before .before .before .before .setpoint .result)
+    (l .before .before .before .before .step .result)
+    (l .before .step2 .result)
+    (l .kinds-of .result)
+    (l .before .before .before .before .before .before .setpoint .ensures .is)
+    (l .before .before .before .before .step .ensures)
+    (afrr-stepped l)
+    (l .kinds-of .ensures)
+    _
+    (c .before .before .off-number .ensures)
+    (c .before .if1 .taken))
 
--- src/lib.rt:136:38
 row-with-requires : tie.Need-row-with-requires
-row-with-requires c κs = ?
+row-with-requires c κs =
+    let l = c .before .before .before .before in
+    let g = start l .args in
+    shareable (g .self) (g .x) (g .mfrr) (g .next) (g .measured .0) (g .working-point .0) (start l .pre)
+    (l .before .before .before .before .before .before .setpoint .result)
+    (l .before .before .before .before .step .result)
+    (l .before .step2 .result)
+    (l .kinds-of .result)
+    (l .before .before .before .before .before .before .setpoint .ensures .is)
+    (l .before .before .before .before .step .ensures)
+    (afrr-stepped l)
+    (l .kinds-of .ensures)
 
--- src/lib.rt:138:26
 add-t21 : tie.Need-add-t21
-add-t21 c = ?
+add-t21 c = omega (arith, start (c .before .before .before .before .before .before) .pre .called .passed .seconds)
 
--- src/lib.rt:118:5
 returns-2 : tie.Need-returns-2
-returns-2 c = ?
+returns-2 c =
+    let l = c .before .before .before .before .before .before in
+    let g = start l .args in
+    accepted (g .self) (g .x) (g .mfrr) (g .next) (g .measured .0) (g .working-point .0) (start l .pre)
+    (l .before .before .before .before .before .before .setpoint .result)
+    (l .before .before .before .before .step .result)
+    (l .before .step2 .result)
+    (l .kinds-of .result)
+    (l .before .before .before .before .before .before .setpoint .ensures .is)
+    (l .before .before .before .before .step .ensures)
+    (afrr-stepped l)
+    (l .kinds-of .ensures)
+    (c .before .row-with .result)
+    (c .before .row-with .ensures)
+    (sym (c .before .before .before .before .before .off-number .ensures) ∙ c .before .before .before .before .if1 .left)
 
 pub with-mfrr-spec : {M : Type 1} → statement M
 with-mfrr-spec =
