@@ -249,6 +249,6 @@ module _ (d : ℤ) (a b c : Kind) where
         open-none = λ q. open-is ∙ p .open-none q;
         open-all = λ q. open-is ∙ p .open-all q;
         within = λ h q.
-          subst (λ (l : List KindRow). AllInBand l ↔ (natAbs (errorOf d (three a b c)) ≤ totalOf d (three a b c))) (sym kinds-are) (p .within h q);
+            subst (λ (l : List KindRow). AllInBand l ↔ (natAbs (errorOf d (three a b c)) ≤ totalOf d (three a b c))) (sym kinds-are) (p .within h q);
         each = subst (SharesWithin (natAbs (errorOf d (three a b c)))) (sym kinds-are) (p .each);
       }

@@ -172,9 +172,9 @@ module _ (e : ℕ) (ks : List Weighed) where
         off = off-rounded e T ks (shares e ks) r;
         rounded = λ z. r;
         ranked = λ z i l.
-          ap (λ (l : List ℕ). getD l i 0) s ∙ getD-plus (floors e T ts) xs i (length-map ts (floorOf e T) ∙ sym n)
-          ∙ ap (λ (x : ℕ). getD (floors e T ts) i 0 + x)
-          (ranked (missing e ts) (rests e T ts) .rank i (omega (arith, length-map ts (restOf e T), length-map ks toleranceOf)));
+            ap (λ (l : List ℕ). getD l i 0) s ∙ getD-plus (floors e T ts) xs i (length-map ts (floorOf e T) ∙ sym n)
+            ∙ ap (λ (x : ℕ). getD (floors e T ts) i 0 + x)
+            (ranked (missing e ts) (rests e T ts) .rank i (omega (arith, length-map ts (restOf e T), length-map ks toleranceOf)));
       }
 
   no-tolerance : total ks ≡ 0 → Shared e ks

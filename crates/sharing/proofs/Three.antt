@@ -37,8 +37,8 @@ parts-are e ts m fs rs xs n d x =
       floors-are = three fs (floors e (sum ts) ts) (d .floors-are) (length-map ts (floorOf e (sum ts)) ∙ n);
       rests-are = three rs (rests e (sum ts) ts) (d .rests-are) long;
       extras-are =
-        three xs (extras (missing e ts) (rests e (sum ts) ts)) (x ∙ (λ i. extras (d .missing-is i) (d .rests-are i)))
-        (length-extras (rests e (sum ts) ts) (missing e ts) ∙ long);
+          three xs (extras (missing e ts) (rests e (sum ts) ts)) (x ∙ (λ i. extras (d .missing-is i) (d .rests-are i)))
+          (length-extras (rests e (sum ts) ts) (missing e ts) ∙ long);
     }
   where
     long : length (rests e (sum ts) ts) ≡ 3
@@ -49,8 +49,8 @@ pub first-three : (e x y z : ℕ) (a b c : Weighed) → x ≡ cond (a .on) e 0 �
     → (x ∷ y ∷ z ∷ []) ≡ toFirst e (a ∷ b ∷ c ∷ [])
 first-three e x y z a b c p q r =
     sym (
-      first-next e x a (b ∷ c ∷ []) p
-      ∙ ap (λ (l : List ℕ). x ∷ l) (first-next (e - x) y b (c ∷ []) q ∙ ap (λ (l : List ℕ). y ∷ l) (first-next (e - x - y) z c [] r))
+    first-next e x a (b ∷ c ∷ []) p
+    ∙ ap (λ (l : List ℕ). x ∷ l) (first-next (e - x) y b (c ∷ []) q ∙ ap (λ (l : List ℕ). y ∷ l) (first-next (e - x - y) z c [] r))
     )
 
 -- ts are the tolerances of ks as they were counted, and T their sum

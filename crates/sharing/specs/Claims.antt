@@ -63,8 +63,8 @@ pub record Shared (e : ℕ) (ks : List Weighed) : Type 0 where
   -- the extra kW by rank: the share at each place is the rounded-down one, and one more exactly when fewer kinds stand before it than
   -- kW are missing
   pub ranked : 0 < total ks → (i : ℕ) → i < length ks
-    → getD (shares e ks) i 0
-    ≡ getD (floors e (total ks) (tolerances ks)) i 0 + one (ltb (before (rests e (total ks) (tolerances ks)) i) (missing e (tolerances ks)))
+      → getD (shares e ks) i 0
+      ≡ getD (floors e (total ks) (tolerances ks)) i 0 + one (ltb (before (rests e (total ks) (tolerances ks)) i) (missing e (tolerances ks)))
 
 -- ---- with setpoints, bands and signs
 
@@ -99,5 +99,5 @@ pub record RowShared (d : ℤ) (a b c : Kind) : Type 0 where
   pub open-none : someOn (three a b c) ≡ true → rowOf d a b c .«open» .0 ≡ pos 0
   pub open-all : someOn (three a b c) ≡ false → rowOf d a b c .«open» .0 ≡ d
   pub within : AllPublished (three a b c) → someOn (three a b c) ≡ true
-    → AllInBand (kindsOf (rowOf d a b c)) ↔ (natAbs (errorOf d (three a b c)) ≤ totalOf d (three a b c))
+      → AllInBand (kindsOf (rowOf d a b c)) ↔ (natAbs (errorOf d (three a b c)) ≤ totalOf d (three a b c))
   pub each : SharesWithin (natAbs (errorOf d (three a b c))) (kindsOf (rowOf d a b c))

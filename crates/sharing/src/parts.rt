@@ -22,7 +22,13 @@ pub(crate) fn total(tolerances: &[u64]) -> u64
 }
 
 // Each kind's share rounded down and its remainder, written at its place. Answers the kW that are then missing.
-pub(crate) fn round_down(error: u64, total: u64, tolerances: &[u64], floors: &mut [u64], rests: &mut [u64]) -> u64
+pub(crate) fn round_down(
+    error: u64,
+    total: u64,
+    tolerances: &[u64],
+    floors: &mut [u64],
+    rests: &mut [u64],
+) -> u64
     requires { ⌜ Divisible error total (now tolerances) ⌝ }
     requires { ⌜ (length (now floors) ≡ length (now tolerances)) × (length (now rests) ≡ length (now tolerances)) ⌝ }
     ensures { λ r. ⌜ RoundedDown error (now (tolerances .entry)) r (now (floors .exit)) (now (rests .exit)) ⌝ }

@@ -45,7 +45,12 @@ pub fn row_of(measured: Kw, working_point: Kw, fcr: Kind, afrr: Kind, mfrr: Kind
     let error = error_of(due, fcr, afrr, mfrr);
     let upward = Kw(0).is_at_most(error);
     let size = kinds::magnitude(error);
-    let shared = shares::share(size, fcr.weighed(upward), afrr.weighed(upward), mfrr.weighed(upward));
+    let shared = shares::share(
+        size,
+        fcr.weighed(upward),
+        afrr.weighed(upward),
+        mfrr.weighed(upward),
+    );
     Row {
         fcr: fcr.row(upward, shared.fcr),
         afrr: afrr.row(upward, shared.afrr),

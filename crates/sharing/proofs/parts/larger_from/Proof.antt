@@ -37,7 +37,7 @@ loop-less : tie.Need-loop-less Inv-loop μ-loop
 loop-less c = search needs
 
 loop-again : tie.Need-loop-again Inv-loop μ-loop
-loop-again c = 
+loop-again c =
     let a = c .before .before .before .before .before .args in
     omega (arith, larger-next (a .rests .now) (c .before .before .before .loop .i) (c .before .before .loop-test .taken) (a .rest))
 

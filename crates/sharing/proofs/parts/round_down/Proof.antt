@@ -29,7 +29,7 @@ shared-slice-read-product : tie.Need-shared-slice-read-product Inv-loop μ-loop
 shared-slice-read-product c = search needs
 
 mul-product-2 : tie.Need-mul-product-2 Inv-loop μ-loop
-mul-product-2 c = 
+mul-product-2 c =
     let s = c .before .before .before in
     product-fits (s .args .error) (s .args .tolerances .now) (c .before .before .loop .i) (rw (s .pre .0 .is) at (s .pre .0 .products))
 

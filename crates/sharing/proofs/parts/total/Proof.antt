@@ -25,7 +25,7 @@ shared-slice-read-sum : tie.Need-shared-slice-read-sum Inv-loop μ-loop
 shared-slice-read-sum c = search needs
 
 add-sum : tie.Need-add-sum Inv-loop μ-loop
-add-sum c = 
+add-sum c =
     omega (arith, sum-next (c .before .before .before .args .tolerances .now) (c .before .before .loop .i) (c .before .loop-test .taken))
 
 add-i : tie.Need-add-i Inv-loop μ-loop
@@ -35,7 +35,7 @@ loop-less : tie.Need-loop-less Inv-loop μ-loop
 loop-less c = search needs
 
 loop-again : tie.Need-loop-again Inv-loop μ-loop
-loop-again c = 
+loop-again c =
     omega (arith, sum-next (c .before .before .before .args .tolerances .now) (c .before .before .loop .i) (c .before .loop-test .taken))
 
 returns : tie.Need-returns Inv-loop μ-loop
