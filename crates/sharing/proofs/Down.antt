@@ -5,7 +5,7 @@ use mathlib.Core.List.{List, [], _++_, map}
 use native.Mathlib.Omega.{arith}
 use lib.ListN.{length, length-set, getD, take, drop, set}
 use Rattle.sharing.specs.Shares.{sum, floorOf, restOf, floors, rests}
-use Rattle.sharing.specs.Parts.{Divisible, RoundedDown}
+use Rattle.sharing.specs.Steps.{ByTotal, RoundedDown}
 use Rattle.sharing.proofs.Counts.{floors-le}
 use Rattle.sharing.proofs.Walk.{map-next, ended, put-next, put-end}
 
@@ -18,7 +18,7 @@ pub record Walked (e T : ℕ) (ts fs rs : List ℕ) (m i : ℕ) : Type 0 where
   pub rests-put : take i rs ++ rests e T (drop i ts) ≡ rests e T ts
   pub left : m ≡ (e - sum (floors e T ts)) + sum (floors e T (drop i ts))
 
-pub start : (e T : ℕ) (ts fs rs : List ℕ) → Divisible e T ts → length fs ≡ length ts → length rs ≡ length ts → Walked e T ts fs rs e 0
+pub start : (e T : ℕ) (ts fs rs : List ℕ) → ByTotal e T ts → length fs ≡ length ts → length rs ≡ length ts → Walked e T ts fs rs e 0
 start e T ts fs rs d p q =
     let l : sum (floors e T ts) ≤ e = rw (d .is) (floors-le e ts (omega (arith, d .is, d .above))) in
     record { place = omega arith; floors-long = p; rests-long = q; floors-put = refl; rests-put = refl; left = omega arith }

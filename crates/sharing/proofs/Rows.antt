@@ -22,7 +22,8 @@ use Rattle.sharing.specs.declared.kinds.Kind.{Kind}
 use Rattle.sharing.specs.Shares.{sum, anyOn, toleranceOf, tolerances, total, shares}
 use Rattle.sharing.specs.Rows.{someOn, setpointOn, errorOf, upward, toward, weighedOf, weighed, totalOf, sharesOf, signed, kindRow, rowsBy, kindRows, openOf, three, rowWith, rowOf}
 use Rattle.sharing.specs.Claims.{AllAtMost, OffNone, Shared, AllPublished, SharesWithin, PlantShared, RowShared}
-use Rattle.sharing.proofs.Shared.{shared, sum-le}
+use Rattle.sharing.proofs.Shared.{shared, sum-le, off-length}
+use Rattle.sharing.proofs.Three.{OfThree, of-three}
 
 -- ---- the sum
 
@@ -219,20 +220,22 @@ module _ (d : ℤ) (ks : List Kind) where
 
 -- ---- at three kinds
 
-rows-three : (t : Bool) (a b c : Kind) (xs : List ℕ) (o : ℤ) → OffNone xs (weighed t (three a b c))
+rows-three : (t : Bool) (a b c : Kind) (xs : List ℕ) (o : ℤ) → OfThree xs
     → kindsOf (rowWith (rowsBy t (three a b c) xs) o) ≡ rowsBy t (three a b c) xs
-rows-three t a b c [] o w = absurd w
-rows-three t a b c (x ∷ []) o w = absurd (w .1)
-rows-three t a b c (x ∷ y ∷ []) o w = absurd (w .1 .1)
-rows-three t a b c (x ∷ y ∷ z ∷ []) o w = refl
-rows-three t a b c (x ∷ y ∷ z ∷ v ∷ xs) o w = absurd (w .1 .1 .1)
+rows-three t a b c xs o h = rw (h .is) refl
+
+-- a plant's shares, one for each kind
+pub shares-three : (d : ℤ) (a b c : Kind) → OfThree (sharesOf d (three a b c))
+shares-three d a b c =
+    let e : ℤ = errorOf d (three a b c) in
+    let ks : List Weighed = weighed (upward e) (three a b c) in
+    of-three (sharesOf d (three a b c)) (off-length (sharesOf d (three a b c)) ks (shared (natAbs e) ks .off))
 
 module _ (d : ℤ) (a b c : Kind) where
   kinds-are : kindsOf (rowOf d a b c) ≡ kindRows d (three a b c)
   unfolding rowOf kindRows
   kinds-are =
-      let e : ℤ = errorOf d (three a b c) in
-      rows-three (upward e) a b c (sharesOf d (three a b c)) (openOf d (three a b c)) (shared (natAbs e) (weighed (upward e) (three a b c)) .off)
+      rows-three (upward (errorOf d (three a b c))) a b c (sharesOf d (three a b c)) (openOf d (three a b c)) (shares-three d a b c)
 
   open-is : rowOf d a b c .«open» .0 ≡ openOf d (three a b c)
   unfolding rowOf

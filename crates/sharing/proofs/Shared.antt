@@ -145,6 +145,13 @@ within-first (k ∷ ks) = go (k .on) (within-first ks)
     go true w = (omega arith, within-none ks)
     go false w = (omega arith, w)
 
+-- as many shares as kinds
+pub off-length : (xs : List ℕ) (ks : List Weighed) → OffNone xs ks → length xs ≡ length ks
+off-length [] [] w = refl
+off-length [] (k ∷ ks) w = absurd w
+off-length (x ∷ xs) [] w = absurd w
+off-length (x ∷ xs) (k ∷ ks) w = ap suc (off-length xs ks (w .1))
+
 -- ---- both
 
 module _ (e : ℕ) (ks : List Weighed) where

@@ -12,19 +12,28 @@ use Rattle.sharing.specs.declared.shares.Part.{Part}
 use Rattle.sharing.specs.declared.shares.Parts.{Parts}
 use Rattle.sharing.specs.declared.shares.Shares.{Shares}
 use Rattle.sharing.specs.Shares.{sum, toleranceOf, tolerances, floorOf, floors, restOf, rests, missing, extras, plus, byTolerance, toFirst, shares}
-use Rattle.sharing.specs.Parts.{Fitting, Divisible, RoundedDown, PartsAre, SharesAre, floorsIn, extrasIn, sharesIn}
+use Rattle.sharing.specs.Steps.{Fitting, ByTotal, RoundedDown, PartsAre, SharesAre, floorsIn, extrasIn, sharesIn}
 use Rattle.sharing.proofs.Counts.{length-extras}
 use Rattle.sharing.proofs.Shared.{sum-by-tolerance, first-next, by-tolerance, to-first, sum-le}
 
+pub record OfThree (l : List ℕ) : Type 0 where
+  pub x : ℕ
+  pub y : ℕ
+  pub z : ℕ
+  pub is : l ≡ x ∷ y ∷ z ∷ []
+
+pub of-three : (l : List ℕ) → length l ≡ 3 → OfThree l
+of-three [] n = absurd (omega arith)
+of-three (x ∷ []) n = absurd (omega arith)
+of-three (x ∷ y ∷ []) n = absurd (omega arith)
+of-three (x ∷ y ∷ z ∷ []) n = record { x = x; y = y; z = z; is = refl }
+of-three (x ∷ y ∷ z ∷ v ∷ l) n = absurd (omega arith)
+
 three : (l m : List ℕ) → l ≡ m → length m ≡ 3 → (getD l 0 0 ∷ getD l 1 0 ∷ getD l 2 0 ∷ []) ≡ m
-three l m e n = ap (λ (k : List ℕ). getD k 0 0 ∷ getD k 1 0 ∷ getD k 2 0 ∷ []) e ∙ go m n
+three l m e n = go (of-three m n)
   where
-    go : (m : List ℕ) → length m ≡ 3 → (getD m 0 0 ∷ getD m 1 0 ∷ getD m 2 0 ∷ []) ≡ m
-    go [] n = absurd (omega arith)
-    go (a ∷ []) n = absurd (omega arith)
-    go (a ∷ b ∷ []) n = absurd (omega arith)
-    go (a ∷ b ∷ c ∷ []) n = refl
-    go (a ∷ b ∷ c ∷ d ∷ m) n = absurd (omega arith)
+    go : OfThree m → (getD l 0 0 ∷ getD l 1 0 ∷ getD l 2 0 ∷ []) ≡ m
+    go t = rw (e, t .is) refl
 
 -- the place i of each list
 abbrev part : List ℕ → List ℕ → List ℕ → ℕ → Part
@@ -64,7 +73,7 @@ module _ (e : ℕ) (ks : List Weighed) (ts : List ℕ) (T : ℕ) (t : ts ≡ tol
   pub all-first : (s : Shares) → T ≡ 0 → sharesIn s ≡ toFirst e ks → SharesAre e ks s
   all-first s z p = are s (p ∙ sym (to-first e ks (sym (ap sum t) ∙ sym q ∙ z)))
 
-  pub divisible : 0 < T → Fitting e (tolerances ks) → Divisible e T ts
+  pub divisible : 0 < T → Fitting e (tolerances ks) → ByTotal e T ts
   divisible h f = record { is = q; above = h; products = rw (q ∙ ap sum t) (f .products) }
 
   added : (p : Parts) → PartsAre e ts p → plus (floorsIn p) (extrasIn p) ≡ byTolerance e ts

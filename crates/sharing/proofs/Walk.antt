@@ -1,13 +1,15 @@
 -- Lists that a loop walks from the front: what it adds up, and what it writes at each place. Assumes nothing.
 use Prim.Native.Nat.{ℕ, zero, suc, _+_, _-_, _*_, _≤_, _<_}
 use mathlib.Core.Path.{_≡_, sym, ap, _∙_}
+use mathlib.Core.Bool.{Bool}
 use mathlib.Core.List.{List, [], _∷_, _++_, append-nil, map}
 use native.Mathlib.Omega.{arith}
 use native.Mathlib.Numerals.{add-one}
-use native.Mathlib.Nat.{mul-le-mul-left}
+use native.Mathlib.Nat.{mul-le-mul-left, zero-add}
 use lib.ListN.{length, getD, take, drop, set, drop-of-length-le}
 use lib.Seq.{drop-cons, take-suc-set, take-all, append-snoc}
 use lib.Dec.{ltb}
+use borrow.Author.Tests.{lt-ltb, le-ltb}
 use mir.Syntax.{w64}
 use mir.Val.{Fits}
 use mir.Facts.{fits-le}
@@ -20,8 +22,14 @@ module _ (xs : List ℕ) (i : ℕ) (h : i < length xs) where
   pub sum-next : sum (drop i xs) ≡ getD xs i 0 + sum (drop (i + 1) xs)
   sum-next = ap sum next
 
-  pub larger-next : (r : ℕ) → larger r (drop i xs) ≡ one (ltb r (getD xs i 0)) + larger r (drop (i + 1) xs)
+  larger-next : (r : ℕ) → larger r (drop i xs) ≡ one (ltb r (getD xs i 0)) + larger r (drop (i + 1) xs)
   larger-next r = ap (larger r) next
+
+  pub larger-above : (r : ℕ) → r < getD xs i 0 → larger r (drop i xs) ≡ 1 + larger r (drop (i + 1) xs)
+  larger-above r l = larger-next r ∙ ap (λ (t : Bool). one t + larger r (drop (i + 1) xs)) (lt-ltb r (getD xs i 0) l)
+
+  pub larger-past : (r : ℕ) → getD xs i 0 ≤ r → larger r (drop i xs) ≡ larger r (drop (i + 1) xs)
+  larger-past r l = larger-next r ∙ ap (λ (t : Bool). one t + larger r (drop (i + 1) xs)) (le-ltb r (getD xs i 0) l) ∙ zero-add _
 
   pub map-next : (f : ℕ → ℕ) → map f (drop i xs) ≡ f (getD xs i 0) ∷ map f (drop (i + 1) xs)
   map-next f = ap (map f) next

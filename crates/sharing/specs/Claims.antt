@@ -1,5 +1,4 @@
--- What is claimed of sharing, for every list of kinds and every error. The proofs are `shared` of proofs/Shared.antt, and `plant` and
--- `row-shared` of proofs/Rows.antt.
+-- What is claimed of sharing (01, "Sharing"), for every list of kinds and every error. The proof is `claims` of proofs/Claims.antt.
 use Prim.Native.Nat.{ℕ, suc, _+_, _≤_, _<_}
 use mathlib.Core.Path.{_≡_}
 use mathlib.Core.Logic.{_↔_, _⊎_}
@@ -15,6 +14,7 @@ use Rattle.row.specs.Row.{kindsOf, AllInBand, sumActuals}
 use Rattle.sharing.specs.declared.shares.Weighed.{Weighed}
 use Rattle.sharing.specs.declared.kinds.Kind.{Kind}
 use Rattle.sharing.specs.Shares.{one, sum, anyOn, tolerances, total, floorOf, floors, restOf, rests, missing, larger, extras, shares}
+use Rattle.sharing.specs.Sizes.{SizedKinds, SizedRow}
 use Rattle.sharing.specs.Rows.{someOn, errorOf, totalOf, kindRows, openOf, three, rowOf}
 
 -- as many shares as tolerances, each at most the tolerance at its place
@@ -101,3 +101,11 @@ pub record RowShared (d : ℤ) (a b c : Kind) : Type 0 where
   pub within : AllPublished (three a b c) → someOn (three a b c) ≡ true
       → AllInBand (kindsOf (rowOf d a b c)) ↔ (natAbs (errorOf d (three a b c)) ≤ totalOf d (three a b c))
   pub each : SharesWithin (natAbs (errorOf d (three a b c))) (kindsOf (rowOf d a b c))
+
+pub record Claims : Type 0 where
+  pub shared : (e : ℕ) (ks : List Weighed) → Shared e ks
+  pub ranked : (m : ℕ) (rs : List ℕ) → Ranked m rs
+  pub plant : (d : ℤ) (ks : List Kind) → PlantShared d ks
+  pub row : (d : ℤ) (a b c : Kind) → RowShared d a b c
+  -- where measured - working point is within D, so is open, and an actual is at most four setpoints larger
+  pub sized : (D : ℕ) (d : ℤ) (a b c : Kind) → Within D d → SizedKinds a b c → SizedRow D (rowOf d a b c)

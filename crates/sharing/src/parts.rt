@@ -1,11 +1,11 @@
 // Rounding down and the extra kW, for T above 0, over slices that have a place for each kind: any number of kinds.
 ghost use mathlib.Core.Path.{_≡_};
-ghost use Prim.Native.Nat.{_≤_, _<_};
+ghost use Prim.Native.Nat.{_≤_};
 ghost use lib.ListN.{length, drop};
 ghost use mir.Syntax.{w64};
 ghost use mir.Val.{Fits};
 ghost use Rattle.sharing.specs.Shares.{sum, larger, extras};
-ghost use Rattle.sharing.specs.Parts.{Flag, Divisible, RoundedDown};
+ghost use Rattle.sharing.specs.Steps.{Flag, ByTotal, RoundedDown};
 
 // T: the tolerances, added.
 pub(crate) fn total(tolerances: &[u64]) -> u64
@@ -29,7 +29,7 @@ pub(crate) fn round_down(
     floors: &mut [u64],
     rests: &mut [u64],
 ) -> u64
-    requires { ⌜ Divisible error total (now tolerances) ⌝ }
+    requires { ⌜ ByTotal error total (now tolerances) ⌝ }
     requires { ⌜ (length (now floors) ≡ length (now tolerances)) × (length (now rests) ≡ length (now tolerances)) ⌝ }
     ensures { λ r. ⌜ RoundedDown error (now (tolerances .entry)) r (now (floors .exit)) (now (rests .exit)) ⌝ }
 {
@@ -61,7 +61,9 @@ fn larger_from(rest: u64, rests: &[u64], from: usize) -> u64
     let mut count: u64 = 0;
     let mut i = from;
     while i < rests.len() {
-        count += flag(rest, rests[i]);
+        if rest < rests[i] {
+            count += 1;
+        }
         i += 1;
     }
     count

@@ -2,13 +2,12 @@
 use crate::KINDS;
 use crate::parts;
 ghost use mathlib.Core.Path.{_≡_};
-ghost use mathlib.Core.Bool.{cond};
-ghost use mathlib.Core.List.{List, [], _∷_};
-ghost use Prim.Native.Nat.{_+_, _≤_};
+ghost use mathlib.Core.List.{[], _∷_};
+ghost use Prim.Native.Nat.{_+_};
 ghost use mir.Syntax.{w64};
 ghost use mir.Val.{Fits};
 ghost use Rattle.sharing.specs.Shares.{sum, toleranceOf, tolerances, plus, toFirst};
-ghost use Rattle.sharing.specs.Parts.{Fitting, Divisible, Taken, PartsAre, SharesAre, floorsIn, extrasIn, sharesIn};
+ghost use Rattle.sharing.specs.Steps.{Fitting, ByTotal, Taken, PartsAre, SharesAre, floorsIn, extrasIn, sharesIn};
 
 // A kind of reserve for sharing: whether it is on, and its tolerance in kW in the error's direction.
 pub struct Weighed {
@@ -81,7 +80,7 @@ impl Parts {
 
 // What each kind's share is made of, for T above 0.
 fn parts_of(error: u64, total: u64, tolerances: [u64; KINDS]) -> Parts
-    requires { ⌜ Divisible error total tolerances ⌝ }
+    requires { ⌜ ByTotal error total tolerances ⌝ }
     ensures { λ r. ⌜ PartsAre error tolerances r ⌝ }
 {
     let mut floors = [0u64; KINDS];

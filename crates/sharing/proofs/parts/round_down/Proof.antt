@@ -8,8 +8,6 @@ use Rattle.sharing.proofs.Down.{Walked, start, enough, further, done}
 use Rattle.sharing.proofs.Walk.{product-fits}
 use Rattle.sharing.proofs.parts.round_down.Statement.{statement}
 use Rattle.sharing.proofs.parts.round_down.Tie as tie
-use Rattle.sharing.proofs.parts.round_down.Reads as reads
-use Rattle.sharing.proofs.parts.round_down.Lts as lts
 
 abbrev Inv-loop : tie.InvT-loop
 Inv-loop e T ts fs₀ rs₀ m₀ i₀ fs rs m i = Walked e T ts fs rs m i

@@ -17,13 +17,13 @@ pub record Flag (a b r : ℕ) : Type 0 where
   pub bit : r ≤ 1
   pub below : r ≤ b
 
--- T and no product of e with a tolerance leaves 64 bits
+-- neither T nor a product of e with a tolerance leaves 64 bits
 pub record Fitting (e : ℕ) (ts : List ℕ) : Type 0 where
   pub total : Fits w64 (sum ts)
   pub products : Fits w64 (e * sum ts)
 
--- the same, where T is above 0
-pub record Divisible (e T : ℕ) (ts : List ℕ) : Type 0 where
+-- T is the sum of the tolerances, above 0, and no product of e with a tolerance leaves 64 bits
+pub record ByTotal (e T : ℕ) (ts : List ℕ) : Type 0 where
   pub is : T ≡ sum ts
   pub above : 0 < T
   pub products : Fits w64 (e * T)
