@@ -19,7 +19,7 @@ use Rattle.row.specs.declared.Row.{Row}
 use Rattle.sharing.specs.declared.shares.Weighed.{Weighed}
 use Rattle.sharing.specs.declared.shares.Shares.{Shares}
 use Rattle.sharing.specs.declared.kinds.Kind.{Kind}
-use Rattle.sharing.specs.Shares.{sum, toleranceOf, tolerances, total, shares}
+use Rattle.sharing.specs.Shares.{sumOf, toleranceOf, tolerances, total, shares}
 use Rattle.sharing.specs.Steps.{Fitting, sharesIn}
 use Rattle.sharing.specs.Rows.{errorOf, upward, toward, weighedOf, weighed, signed, kindRow, rowsBy, kindRows, openOf, three, rowWith, rowOf}
 use Rattle.sharing.specs.Sizes.{mostPower, mostSetpoint, mostLimit, SizedKind, SizedKinds, SizedRow, RowIs}

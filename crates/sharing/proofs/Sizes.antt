@@ -9,7 +9,7 @@ use Rattle.numbers.specs.Bounds.{Within}
 use Rattle.numbers.proofs.Fit.{within-lit, within-cond}
 use Rattle.numbers.proofs.Parts.{nat-within, within-nat, add-nat, sub-nat}
 use Rattle.sharing.specs.declared.kinds.Kind.{Kind}
-use Rattle.sharing.specs.Shares.{sum}
+use Rattle.sharing.specs.Shares.{sumOf}
 use Rattle.sharing.specs.Rows.{someOn, setpointOn, errorOf, upward, weighed, sharesOf, signed, kindRow, rowsBy, kindRows, openOf, three, rowWith, rowOf}
 use Rattle.sharing.specs.Sizes.{mostSetpoint, SizedKind, SizedKinds, SizedKindRow, SizedRow}
 use Rattle.sharing.proofs.Shared.{sum-le}
@@ -57,10 +57,10 @@ kind-sized D t k x s h = go (k .on) refl
         })
     go false q = rw q (record { setpoint = zero _; low = zero _; high = zero _; share = zero _; actual = zero _ })
 
-rows-sized : (D : ℕ) (t : Bool) (a b c : Kind) (xs : List ℕ) (o : ℤ) → SizedKinds a b c → Within D o → OfThree xs → sum xs ≤ D + 3 * mostSetpoint
+rows-sized : (D : ℕ) (t : Bool) (a b c : Kind) (xs : List ℕ) (o : ℤ) → SizedKinds a b c → Within D o → OfThree xs → sumOf xs ≤ D + 3 * mostSetpoint
     → SizedRow D (rowWith (rowsBy t (three a b c) xs) o)
 rows-sized D t a b c xs o s w h l =
-    let q = ap sum (h .is) in
+    let q = ap sumOf (h .is) in
     rw (h .is)
     (record {
       fcr = kind-sized D t a (h .x) (s .fcr) (omega arith);
