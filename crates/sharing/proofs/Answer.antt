@@ -19,8 +19,8 @@ use Rattle.row.specs.declared.Row.{Row}
 use Rattle.sharing.specs.declared.shares.Weighed.{Weighed}
 use Rattle.sharing.specs.declared.shares.Shares.{Shares}
 use Rattle.sharing.specs.declared.kinds.Kind.{Kind}
-use Rattle.sharing.specs.Shares.{sum, toleranceOf, tolerances, total, shares}
-use Rattle.sharing.specs.Parts.{Fitting, sharesIn}
+use Rattle.sharing.specs.Shares.{sumOf, toleranceOf, tolerances, total, shares}
+use Rattle.sharing.specs.Steps.{Fitting, sharesIn}
 use Rattle.sharing.specs.Rows.{errorOf, upward, toward, weighedOf, weighed, signed, kindRow, rowsBy, kindRows, openOf, three, rowWith, rowOf}
 use Rattle.sharing.specs.Sizes.{mostPower, mostSetpoint, mostLimit, SizedKind, SizedKinds, SizedRow, RowIs}
 use Rattle.sharing.proofs.Sizes.{less, more, signed-within, error-within, sized}
@@ -30,7 +30,7 @@ abbrev pub mostError : ℕ
 mostError = 2 * mostPower + 3 * mostSetpoint
 
 abbrev mostTolerance : ℕ
-mostTolerance = mostLimit + mostSetpoint
+mostTolerance = 2 * mostLimit
 
 pub due-within : (m w : ℤ) → Within mostPower m → Within mostPower w → Within (2 * mostPower) (m -ℤ w)
 due-within m w p q = less mostPower mostPower (2 * mostPower) m w (omega arith) p q
@@ -41,12 +41,12 @@ size-most d e n a b c w s p q = rw (q ∙ ap natAbs p) (error-within (2 * mostPo
 tolerance-most : (t : Bool) (k : Kind) → SizedKind k → toleranceOf (weighedOf t k) ≤ mostTolerance
 tolerance-most t k s = go (k .on) t
   where
-    far : (t : Bool) → toward t k ≤ mostTolerance
-    far true = less mostLimit mostSetpoint mostTolerance (k .band .high .0) (k .setpoint .0) (omega arith) (s .high) (s .setpoint) .within
-    far false = less mostSetpoint mostLimit mostTolerance (k .setpoint .0) (k .band .low .0) (omega arith) (s .setpoint) (s .low) .within
+    near : (t : Bool) → toward t k ≤ mostTolerance
+    near true = let w : Within mostTolerance (k .band .high .0 -ℤ k .setpoint .0) = search fit in w .within
+    near false = let w : Within mostTolerance (k .setpoint .0 -ℤ k .band .low .0) = search fit in w .within
 
     go : (u t : Bool) → cond u (toward t k) 0 ≤ mostTolerance
-    go true t = far t
+    go true t = near t
     go false t = omega arith
 
 pub fitting : (e : ℕ) (t : Bool) (a b c : Kind) (ks : List Weighed) → e ≤ mostError → SizedKinds a b c → ks ≡ weighed t (three a b c) → Fitting e (tolerances ks)

@@ -9,7 +9,7 @@ use native.Mathlib.Nat.{div-add-mod', mod-lt, le-of-mul-le-mul-right, mul-le-mul
 use lib.Dec.{ltb}
 use lib.ListN.{length}
 use borrow.Author.Tests.{ltb-true, ltb-false}
-use Rattle.sharing.specs.Shares.{one, sum, floors, rests, missing, larger, extraOf, extras, plus}
+use Rattle.sharing.specs.Shares.{one, sumOf, floors, rests, missing, larger, extraOf, extras, plus}
 
 -- a test as 1 or 0
 pub flag : (a b : ℕ) → ((a < b) × (one (ltb a b) ≡ 1)) ⊎ ((b ≤ a) × (one (ltb a b) ≡ 0))
@@ -19,20 +19,20 @@ flag a b = go (ltb a b) refl
     go true q = inl (ltb-true a b q, refl)
     go false q = inr (ltb-false a b q, refl)
 
--- a count of those larger is at most the length, and falls as the bound rises
-pub larger-length : (r : ℕ) (rs : List ℕ) → larger r rs ≤ length rs
-larger-length r [] = omega arith
-larger-length r (x ∷ rs) =
-    let ih = larger-length r rs in
-    ⊎-elim (λ w. omega arith) (λ w. omega arith) (flag r x)
-
+-- a count of those larger falls as the bound rises, and is at most the length
 pub larger-fall : (a b : ℕ) (rs : List ℕ) → a ≤ b → larger b rs ≤ larger a rs
 larger-fall a b [] h = omega arith
 larger-fall a b (x ∷ rs) h =
     let ih = larger-fall a b rs h in
     ⊎-elim (λ w. ⊎-elim (λ v. omega arith) (λ v. omega arith) (flag a x)) (λ w. omega arith) (flag b x)
 
-pub sum-extras : (rs : List ℕ) (m : ℕ) → sum (extras m rs) ≡ min m (length rs)
+pub larger-length : (r : ℕ) (rs : List ℕ) → larger r rs ≤ length rs
+larger-length r [] = omega arith
+larger-length r (x ∷ rs) =
+    let ih = larger-length r rs in
+    ⊎-elim (λ w. omega arith) (λ w. omega arith) (flag r x)
+
+pub sum-extras : (rs : List ℕ) (m : ℕ) → sumOf (extras m rs) ≡ min m (length rs)
 sum-extras [] m = omega arith
 sum-extras (r ∷ rs) m =
     let ih = sum-extras rs (m - extraOf m r rs) in
@@ -79,12 +79,12 @@ extras-only (r ∷ rs) m h = (bit, (below, extras-only rs (m - extraOf m r rs) r
         (flag (larger r rs) m)
 
 -- the shares rounded down, times T, and the remainders make up e × each tolerance
-parts : (e T : ℕ) (ts : List ℕ) → sum (floors e T ts) * T + sum (rests e T ts) ≡ e * sum ts
+parts : (e T : ℕ) (ts : List ℕ) → sumOf (floors e T ts) * T + sumOf (rests e T ts) ≡ e * sumOf ts
 parts e T [] = omega arith
 parts e T (t ∷ ts) = omega (arith, parts e T ts, div-add-mod' (e * t) T)
 
 -- every remainder is below T, so T - 1 for each that is above 0 covers them
-rests-below : (e T : ℕ) (ts : List ℕ) → 0 < T → sum (rests e T ts) + larger 0 (rests e T ts) ≤ larger 0 (rests e T ts) * T
+rests-below : (e T : ℕ) (ts : List ℕ) → 0 < T → sumOf (rests e T ts) + larger 0 (rests e T ts) ≤ larger 0 (rests e T ts) * T
 rests-below e T [] h = omega arith
 rests-below e T (t ∷ ts) h =
     let ih = rests-below e T ts h in
@@ -99,28 +99,28 @@ few e F P R T h q l =
     (λ w. w .0)
     (flag P (e - F))
 
-module _ (e : ℕ) (ts : List ℕ) (h : 0 < sum ts) where
-  pub floors-le : sum (floors e (sum ts) ts) ≤ e
-  floors-le = le-of-mul-le-mul-right (omega (arith, parts e (sum ts) ts)) h
+module _ (e : ℕ) (ts : List ℕ) (h : 0 < sumOf ts) where
+  pub floors-le : sumOf (floors e (sumOf ts) ts) ≤ e
+  floors-le = le-of-mul-le-mul-right (omega (arith, parts e (sumOf ts) ts)) h
 
   -- the missing kW are at most the remainders above 0
-  missing-le : missing e ts ≤ larger 0 (rests e (sum ts) ts)
-  missing-le = few _ _ _ _ (sum ts) h (parts e (sum ts) ts) (rests-below e (sum ts) ts h)
+  missing-le : missing e ts ≤ larger 0 (rests e (sumOf ts) ts)
+  missing-le = few _ _ _ _ (sumOf ts) h (parts e (sumOf ts) ts) (rests-below e (sumOf ts) ts h)
 
   -- so they are all given, each to a remainder above 0
-  pub given : sum (extras (missing e ts) (rests e (sum ts) ts)) ≡ missing e ts
+  pub given : sumOf (extras (missing e ts) (rests e (sumOf ts) ts)) ≡ missing e ts
   given =
       omega (
         arith,
-        sum-extras (rests e (sum ts) ts) (missing e ts),
-        larger-length 0 (rests e (sum ts) ts),
+        sum-extras (rests e (sumOf ts) ts) (missing e ts),
+        larger-length 0 (rests e (sumOf ts) ts),
         missing-le,
       )
 
-  pub only : Only (extras (missing e ts) (rests e (sum ts) ts)) (rests e (sum ts) ts)
-  only = extras-only (rests e (sum ts) ts) (missing e ts) missing-le
+  pub only : Only (extras (missing e ts) (rests e (sumOf ts) ts)) (rests e (sumOf ts) ts)
+  only = extras-only (rests e (sumOf ts) ts) (missing e ts) missing-le
 
-pub sum-plus : (xs ys : List ℕ) → sum (plus xs ys) ≡ sum xs + sum ys
+pub sum-plus : (xs ys : List ℕ) → sumOf (plus xs ys) ≡ sumOf xs + sumOf ys
 sum-plus [] ys = omega arith
 sum-plus (x ∷ xs) [] = omega arith
 sum-plus (x ∷ xs) (y ∷ ys) = omega (arith, sum-plus xs ys)

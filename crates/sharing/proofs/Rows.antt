@@ -19,10 +19,11 @@ use Rattle.row.specs.declared.KindRow.{KindRow}
 use Rattle.row.specs.Row.{offRow, kindsOf, InBand, AllInBand, sumActuals}
 use Rattle.sharing.specs.declared.shares.Weighed.{Weighed}
 use Rattle.sharing.specs.declared.kinds.Kind.{Kind}
-use Rattle.sharing.specs.Shares.{sum, anyOn, toleranceOf, tolerances, total, shares}
+use Rattle.sharing.specs.Shares.{sumOf, anyOn, toleranceOf, tolerances, total, shares}
 use Rattle.sharing.specs.Rows.{someOn, setpointOn, errorOf, upward, toward, weighedOf, weighed, totalOf, sharesOf, signed, kindRow, rowsBy, kindRows, openOf, three, rowWith, rowOf}
 use Rattle.sharing.specs.Claims.{AllAtMost, OffNone, Shared, AllPublished, SharesWithin, PlantShared, RowShared}
-use Rattle.sharing.proofs.Shared.{shared, sum-le}
+use Rattle.sharing.proofs.Shared.{shared, sum-le, off-length}
+use Rattle.sharing.proofs.Three.{OfThree, of-three}
 
 -- ---- the sum
 
@@ -71,7 +72,7 @@ joined s g S G h e =
       add-nat (s +ℤ S) h,
     )
 
-actuals-sum : (b : Bool) (ks : List Kind) (xs : List ℕ) → OffNone xs (weighed b ks) → sumActuals (rowsBy b ks xs) ≡ setpoints ks +ℤ signed b (sum xs)
+actuals-sum : (b : Bool) (ks : List Kind) (xs : List ℕ) → OffNone xs (weighed b ks) → sumActuals (rowsBy b ks xs) ≡ setpoints ks +ℤ signed b (sumOf xs)
 actuals-sum b [] [] o = sym (+ℤ-idl (signed b 0) ∙ signed-zero b)
 actuals-sum b [] (x ∷ xs) o = absurd o
 actuals-sum b (k ∷ ks) [] o = absurd o
@@ -80,12 +81,12 @@ actuals-sum b (k ∷ ks) (x ∷ xs) o = go (k .on) refl (actuals-sum b ks xs (o 
     S : ℤ
     S = setpoints ks
 
-    go : (t : Bool) → k .on ≡ t → sumActuals (rowsBy b ks xs) ≡ S +ℤ signed b (sum xs)
-        → kindRow b k x .actual .0 +ℤ sumActuals (rowsBy b ks xs) ≡ (setpointOn k +ℤ S) +ℤ signed b (x + sum xs)
+    go : (t : Bool) → k .on ≡ t → sumActuals (rowsBy b ks xs) ≡ S +ℤ signed b (sumOf xs)
+        → kindRow b k x .actual .0 +ℤ sumActuals (rowsBy b ks xs) ≡ (setpointOn k +ℤ S) +ℤ signed b (x + sumOf xs)
     go true q ih =
-        rw (q, ih) (joined (k .setpoint .0) (signed b x) S (signed b (sum xs)) (signed b (x + sum xs)) (signed-add b x (sum xs)))
+        rw (q, ih) (joined (k .setpoint .0) (signed b x) S (signed b (sumOf xs)) (signed b (x + sumOf xs)) (signed-add b x (sumOf xs)))
     go false q ih =
-        let z : x + sum xs ≡ sum xs = (let p = o .0 q in omega arith) in
+        let z : x + sumOf xs ≡ sumOf xs = (let p = o .0 q in omega arith) in
         rw (q, z, +ℤ-idl (sumActuals (rowsBy b ks xs)), +ℤ-idl S) ih
 
 -- ---- the bands
@@ -145,7 +146,7 @@ any-on b [] = refl
 any-on b (k ∷ ks) = ap (λ (t : Bool). k .on || t) (any-on b ks)
 
 -- each share is at most their sum
-shares-within : (b : Bool) (B : ℕ) (ks : List Kind) (xs : List ℕ) → sum xs ≤ B → SharesWithin B (rowsBy b ks xs)
+shares-within : (b : Bool) (B : ℕ) (ks : List Kind) (xs : List ℕ) → sumOf xs ≤ B → SharesWithin B (rowsBy b ks xs)
 shares-within b B [] xs h = tt
 shares-within b B (k ∷ ks) [] h = tt
 shares-within b B (k ∷ ks) (x ∷ xs) h = (go (k .on) refl, shares-within b B ks xs (omega arith))
@@ -219,20 +220,22 @@ module _ (d : ℤ) (ks : List Kind) where
 
 -- ---- at three kinds
 
-rows-three : (t : Bool) (a b c : Kind) (xs : List ℕ) (o : ℤ) → OffNone xs (weighed t (three a b c))
+rows-three : (t : Bool) (a b c : Kind) (xs : List ℕ) (o : ℤ) → OfThree xs
     → kindsOf (rowWith (rowsBy t (three a b c) xs) o) ≡ rowsBy t (three a b c) xs
-rows-three t a b c [] o w = absurd w
-rows-three t a b c (x ∷ []) o w = absurd (w .1)
-rows-three t a b c (x ∷ y ∷ []) o w = absurd (w .1 .1)
-rows-three t a b c (x ∷ y ∷ z ∷ []) o w = refl
-rows-three t a b c (x ∷ y ∷ z ∷ v ∷ xs) o w = absurd (w .1 .1 .1)
+rows-three t a b c xs o h = rw (h .is) refl
+
+-- a plant's shares, one for each kind
+pub shares-three : (d : ℤ) (a b c : Kind) → OfThree (sharesOf d (three a b c))
+shares-three d a b c =
+    let e : ℤ = errorOf d (three a b c) in
+    let ks : List Weighed = weighed (upward e) (three a b c) in
+    of-three (sharesOf d (three a b c)) (off-length (sharesOf d (three a b c)) ks (shared (natAbs e) ks .off))
 
 module _ (d : ℤ) (a b c : Kind) where
   kinds-are : kindsOf (rowOf d a b c) ≡ kindRows d (three a b c)
   unfolding rowOf kindRows
   kinds-are =
-      let e : ℤ = errorOf d (three a b c) in
-      rows-three (upward e) a b c (sharesOf d (three a b c)) (openOf d (three a b c)) (shared (natAbs e) (weighed (upward e) (three a b c)) .off)
+      rows-three (upward (errorOf d (three a b c))) a b c (sharesOf d (three a b c)) (openOf d (three a b c)) (shares-three d a b c)
 
   open-is : rowOf d a b c .«open» .0 ≡ openOf d (three a b c)
   unfolding rowOf
@@ -249,6 +252,6 @@ module _ (d : ℤ) (a b c : Kind) where
         open-none = λ q. open-is ∙ p .open-none q;
         open-all = λ q. open-is ∙ p .open-all q;
         within = λ h q.
-          subst (λ (l : List KindRow). AllInBand l ↔ (natAbs (errorOf d (three a b c)) ≤ totalOf d (three a b c))) (sym kinds-are) (p .within h q);
+            subst (λ (l : List KindRow). AllInBand l ↔ (natAbs (errorOf d (three a b c)) ≤ totalOf d (three a b c))) (sym kinds-are) (p .within h q);
         each = subst (SharesWithin (natAbs (errorOf d (three a b c)))) (sym kinds-are) (p .each);
       }

@@ -10,7 +10,7 @@ use lib.Dec.{ltb, eqb}
 use lib.ListN.{length, length-map, getD}
 use borrow.Author.Tests.{eq-eqb, ne-eqb}
 use Rattle.sharing.specs.declared.shares.Weighed.{Weighed}
-use Rattle.sharing.specs.Shares.{one, sum, anyOn, toleranceOf, tolerances, total, floorOf, floors, restOf, rests, missing, extras, plus, byTolerance, none, toFirst, shares}
+use Rattle.sharing.specs.Shares.{one, sumOf, anyOn, toleranceOf, tolerances, total, floorOf, floors, restOf, rests, missing, extras, plus, byTolerance, none, toFirst, shares}
 use Rattle.sharing.specs.Claims.{AllAtMost, Rounded, OffNone, before, Shared}
 use Rattle.sharing.proofs.Counts.{flag, length-extras, Only, floors-le, given, only, sum-plus}
 use Rattle.sharing.proofs.Rank.{ranked}
@@ -30,9 +30,9 @@ fits e T t x h l b r =
     (λ w. w .0)
     (flag t (e * t / T + x))
 
-pub sum-by-tolerance : (e : ℕ) (ts : List ℕ) → 0 < sum ts → sum (byTolerance e ts) ≡ e
+pub sum-by-tolerance : (e : ℕ) (ts : List ℕ) → 0 < sumOf ts → sumOf (byTolerance e ts) ≡ e
 sum-by-tolerance e ts h =
-    omega (arith, sum-plus (floors e (sum ts) ts) (extras (missing e ts) (rests e (sum ts) ts)), given e ts h, floors-le e ts h)
+    omega (arith, sum-plus (floors e (sumOf ts) ts) (extras (missing e ts) (rests e (sumOf ts) ts)), given e ts h, floors-le e ts h)
 
 within-fits : (e T : ℕ) (ts xs : List ℕ) → 0 < T → e ≤ T → length xs ≡ length ts → Only xs (rests e T ts) → AllAtMost (plus (floors e T ts) xs) ts
 within-fits e T [] [] h l n o = tt
@@ -51,7 +51,7 @@ rounded-of e T (t ∷ ts) [] n o = absurd (omega arith)
 rounded-of e T (t ∷ ts) (x ∷ xs) n o =
     (one-more (floorOf e T t) (restOf e T t) x (o .0) (o .1 .0), rounded-of e T ts xs (omega arith) (o .1 .1))
 
-within-sum : (xs ts : List ℕ) → AllAtMost xs ts → sum xs ≤ sum ts
+within-sum : (xs ts : List ℕ) → AllAtMost xs ts → sumOf xs ≤ sumOf ts
 within-sum [] [] w = omega arith
 within-sum [] (t ∷ ts) w = absurd w
 within-sum (x ∷ xs) [] w = absurd w
@@ -93,7 +93,7 @@ off-first e (k ∷ ks) = go (k .on) refl (off-first e ks)
     go true q w = ((λ p. absurd (true≢false (sym q ∙ p))), off-none ks)
     go false q w = ((λ p. refl), w)
 
-sum-none : (ks : List Weighed) → sum (none ks) ≡ 0
+sum-none : (ks : List Weighed) → sumOf (none ks) ≡ 0
 sum-none [] = refl
 sum-none (k ∷ ks) = omega (arith, sum-none ks)
 
@@ -101,11 +101,11 @@ within-none : (ks : List Weighed) → AllAtMost (none ks) (tolerances ks)
 within-none [] = tt
 within-none (k ∷ ks) = (omega arith, within-none ks)
 
-sum-first-le : (e : ℕ) (ks : List Weighed) → sum (toFirst e ks) ≤ e
+sum-first-le : (e : ℕ) (ks : List Weighed) → sumOf (toFirst e ks) ≤ e
 sum-first-le e [] = omega arith
 sum-first-le e (k ∷ ks) = go (k .on) (sum-first-le e ks)
   where
-    go : (b : Bool) → sum (toFirst e ks) ≤ e → sum (cond b (e ∷ none ks) (0 ∷ toFirst e ks)) ≤ e
+    go : (b : Bool) → sumOf (toFirst e ks) ≤ e → sumOf (cond b (e ∷ none ks) (0 ∷ toFirst e ks)) ≤ e
     go true ih = omega (arith, sum-none ks)
     go false ih = omega arith
 
@@ -129,11 +129,11 @@ first-next e x k ks q = go (k .on) q
     go false q = λ i. sym q i ∷ toFirst (let z : e ≡ e - x = omega arith in z i) ks
 
 module _ (e : ℕ) where
-  sum-first : (ks : List Weighed) → anyOn ks ≡ true → sum (toFirst e ks) ≡ e
+  sum-first : (ks : List Weighed) → anyOn ks ≡ true → sumOf (toFirst e ks) ≡ e
   sum-first [] a = absurd (true≢false (sym a))
   sum-first (k ∷ ks) a = go (k .on) a (sum-first ks)
     where
-      go : (b : Bool) → (b || anyOn ks) ≡ true → (anyOn ks ≡ true → sum (toFirst e ks) ≡ e) → sum (cond b (e ∷ none ks) (0 ∷ toFirst e ks)) ≡ e
+      go : (b : Bool) → (b || anyOn ks) ≡ true → (anyOn ks ≡ true → sumOf (toFirst e ks) ≡ e) → sumOf (cond b (e ∷ none ks) (0 ∷ toFirst e ks)) ≡ e
       go true q ih = omega (arith, sum-none ks)
       go false q ih = omega (arith, ih q)
 
@@ -144,6 +144,13 @@ within-first (k ∷ ks) = go (k .on) (within-first ks)
     go : (b : Bool) → AllAtMost (toFirst 0 ks) (tolerances ks) → AllAtMost (cond b (0 ∷ none ks) (0 ∷ toFirst 0 ks)) (cond b (k .tolerance) 0 ∷ tolerances ks)
     go true w = (omega arith, within-none ks)
     go false w = (omega arith, w)
+
+-- as many shares as kinds
+pub off-length : (xs : List ℕ) (ks : List Weighed) → OffNone xs ks → length xs ≡ length ks
+off-length [] [] w = refl
+off-length [] (k ∷ ks) w = absurd w
+off-length (x ∷ xs) [] w = absurd w
+off-length (x ∷ xs) (k ∷ ks) w = ap suc (off-length xs ks (w .1))
 
 -- ---- both
 
@@ -159,12 +166,12 @@ module _ (e : ℕ) (ks : List Weighed) where
   some-tolerance : 0 < total ks → Shared e ks
   some-tolerance h =
       let ts : List ℕ = tolerances ks in
-      let T : ℕ = sum ts in
+      let T : ℕ = sumOf ts in
       let xs : List ℕ = extras (missing e ts) (rests e T ts) in
       let n : length xs ≡ length ts = length-extras (rests e T ts) (missing e ts) ∙ length-map ts (restOf e T) in
       let o = only e ts h in
       let s = by-tolerance h in
-      let w : sum (shares e ks) ≡ e = rw s (sum-by-tolerance e ts h) in
+      let w : sumOf (shares e ks) ≡ e = rw s (sum-by-tolerance e ts h) in
       let r : Rounded e T (shares e ks) ts = rw s (rounded-of e T ts xs n o) in
       record {
         whole = λ a. w;
@@ -172,15 +179,15 @@ module _ (e : ℕ) (ks : List Weighed) where
         off = off-rounded e T ks (shares e ks) r;
         rounded = λ z. r;
         ranked = λ z i l.
-          ap (λ (l : List ℕ). getD l i 0) s ∙ getD-plus (floors e T ts) xs i (length-map ts (floorOf e T) ∙ sym n)
-          ∙ ap (λ (x : ℕ). getD (floors e T ts) i 0 + x)
-          (ranked (missing e ts) (rests e T ts) .rank i (omega (arith, length-map ts (restOf e T), length-map ks toleranceOf)));
+            ap (λ (l : List ℕ). getD l i 0) s ∙ getD-plus (floors e T ts) xs i (length-map ts (floorOf e T) ∙ sym n)
+            ∙ ap (λ (x : ℕ). getD (floors e T ts) i 0 + x)
+            (ranked (missing e ts) (rests e T ts) .rank i (omega (arith, length-map ts (restOf e T), length-map ks toleranceOf)));
       }
 
   no-tolerance : total ks ≡ 0 → Shared e ks
   no-tolerance q =
       let s = to-first q in
-      let w : anyOn ks ≡ true → sum (shares e ks) ≡ e = λ a. rw s (sum-first e ks a) in
+      let w : anyOn ks ≡ true → sumOf (shares e ks) ≡ e = λ a. rw s (sum-first e ks a) in
       record {
         whole = w;
         within = λ a. (
@@ -193,7 +200,7 @@ module _ (e : ℕ) (ks : List Weighed) where
       }
 
   -- no share is above the error, for they add up to it, or to 0 where no kind is on
-  pub sum-le : sum (shares e ks) ≤ e
+  pub sum-le : sumOf (shares e ks) ≤ e
   sum-le =
       ⊎-elim
       (λ w. rw (by-tolerance (w .0)) (omega (arith, sum-by-tolerance e (tolerances ks) (w .0))))

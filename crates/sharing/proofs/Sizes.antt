@@ -1,6 +1,6 @@
 -- Sizes of a plant's row: the error is at most D and the setpoints on, no share is above it, and an actual is one setpoint more. Assumes nothing.
 use Prim.Native.Nat.{ℕ, _+_, _*_, _≤_}
-use mathlib.Core.Path.{_≡_, refl}
+use mathlib.Core.Path.{_≡_, refl, ap}
 use mathlib.Core.Bool.{Bool, true, false, cond}
 use mathlib.Core.List.{List, [], _∷_}
 use native.Mathlib.Omega.{arith}
@@ -9,12 +9,12 @@ use Rattle.numbers.specs.Bounds.{Within}
 use Rattle.numbers.proofs.Fit.{within-lit, within-cond}
 use Rattle.numbers.proofs.Parts.{nat-within, within-nat, add-nat, sub-nat}
 use Rattle.sharing.specs.declared.kinds.Kind.{Kind}
-use Rattle.sharing.specs.Shares.{sum}
+use Rattle.sharing.specs.Shares.{sumOf}
 use Rattle.sharing.specs.Rows.{someOn, setpointOn, errorOf, upward, weighed, sharesOf, signed, kindRow, rowsBy, kindRows, openOf, three, rowWith, rowOf}
-use Rattle.sharing.specs.Claims.{OffNone}
 use Rattle.sharing.specs.Sizes.{mostSetpoint, SizedKind, SizedKinds, SizedKindRow, SizedRow}
-use Rattle.sharing.proofs.Shared.{shared, sum-le}
-use Rattle.sharing.proofs.Rows.{signed-size}
+use Rattle.sharing.proofs.Shared.{sum-le}
+use Rattle.sharing.proofs.Three.{OfThree}
+use Rattle.sharing.proofs.Rows.{signed-size, shares-three}
 
 setpoint-on : (k : Kind) → SizedKind k → Within mostSetpoint (setpointOn k)
 setpoint-on k s = within-cond mostSetpoint (k .on) (k .setpoint .0) (pos 0) (s .setpoint) (within-lit mostSetpoint (pos 0) tt)
@@ -57,19 +57,17 @@ kind-sized D t k x s h = go (k .on) refl
         })
     go false q = rw q (record { setpoint = zero _; low = zero _; high = zero _; share = zero _; actual = zero _ })
 
-rows-sized : (D : ℕ) (t : Bool) (a b c : Kind) (xs : List ℕ) (o : ℤ) → SizedKinds a b c → Within D o → OffNone xs (weighed t (three a b c))
-    → sum xs ≤ D + 3 * mostSetpoint → SizedRow D (rowWith (rowsBy t (three a b c) xs) o)
-rows-sized D t a b c [] o s w n h = absurd n
-rows-sized D t a b c (x ∷ []) o s w n h = absurd (n .1)
-rows-sized D t a b c (x ∷ y ∷ []) o s w n h = absurd (n .1 .1)
-rows-sized D t a b c (x ∷ y ∷ z ∷ []) o s w n h =
-    record {
-      fcr = kind-sized D t a x (s .fcr) (omega arith);
-      afrr = kind-sized D t b y (s .afrr) (omega arith);
-      mfrr = kind-sized D t c z (s .mfrr) (omega arith);
+rows-sized : (D : ℕ) (t : Bool) (a b c : Kind) (xs : List ℕ) (o : ℤ) → SizedKinds a b c → Within D o → OfThree xs → sumOf xs ≤ D + 3 * mostSetpoint
+    → SizedRow D (rowWith (rowsBy t (three a b c) xs) o)
+rows-sized D t a b c xs o s w h l =
+    let q = ap sumOf (h .is) in
+    rw (h .is)
+    (record {
+      fcr = kind-sized D t a (h .x) (s .fcr) (omega arith);
+      afrr = kind-sized D t b (h .y) (s .afrr) (omega arith);
+      mfrr = kind-sized D t c (h .z) (s .mfrr) (omega arith);
       open-within = w;
-    }
-rows-sized D t a b c (x ∷ y ∷ z ∷ v ∷ xs) o s w n h = absurd (n .1 .1 .1)
+    })
 
 open-sized : (D : ℕ) (d : ℤ) (ks : List Kind) → Within D d → Within D (openOf d ks)
 unfolding openOf
@@ -80,5 +78,5 @@ unfolding rowOf kindRows
 sized D d a b c w s =
     let e : ℤ = errorOf d (three a b c) in
     rows-sized D (upward e) a b c (sharesOf d (three a b c)) (openOf d (three a b c)) s (open-sized D d (three a b c) w)
-    (shared (natAbs e) (weighed (upward e) (three a b c)) .off)
+    (shares-three d a b c)
     (omega (arith, sum-le (natAbs e) (weighed (upward e) (three a b c)), error-within D d a b c w s .within))

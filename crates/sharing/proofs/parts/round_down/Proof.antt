@@ -8,8 +8,6 @@ use Rattle.sharing.proofs.Down.{Walked, start, enough, further, done}
 use Rattle.sharing.proofs.Walk.{product-fits}
 use Rattle.sharing.proofs.parts.round_down.Statement.{statement}
 use Rattle.sharing.proofs.parts.round_down.Tie as tie
-use Rattle.sharing.proofs.parts.round_down.Reads as reads
-use Rattle.sharing.proofs.parts.round_down.Lts as lts
 
 abbrev Inv-loop : tie.InvT-loop
 Inv-loop e T ts fs₀ rs₀ m₀ i₀ fs rs m i = Walked e T ts fs rs m i
@@ -29,7 +27,7 @@ shared-slice-read-product : tie.Need-shared-slice-read-product Inv-loop μ-loop
 shared-slice-read-product c = search needs
 
 mul-product-2 : tie.Need-mul-product-2 Inv-loop μ-loop
-mul-product-2 c = 
+mul-product-2 c =
     let s = c .before .before .before in
     product-fits (s .args .error) (s .args .tolerances .now) (c .before .before .loop .i) (rw (s .pre .0 .is) at (s .pre .0 .products))
 

@@ -9,9 +9,6 @@ use Rattle.sharing.specs.Sizes.{mostPower}
 use Rattle.sharing.proofs.Sizes.{past-fcr, past-afrr, error-within}
 use Rattle.sharing.proofs.plant.error_of.Statement.{statement}
 use Rattle.sharing.proofs.plant.error_of.Tie as tie
-use Rattle.sharing.proofs.plant.error_of.Reads as reads
-use Rattle.sharing.proofs.plant.error_of.Lts as lts
-use Rattle.sharing.proofs.kinds.Kind.less_setpoint.Reads as less-setpoint-reads
 
 less-setpoint-requires : tie.Need-less-setpoint-requires
 less-setpoint-requires c κs =

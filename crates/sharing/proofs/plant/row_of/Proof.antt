@@ -15,16 +15,6 @@ use Rattle.sharing.proofs.Answer.{mostError, due-within, size-most, fit
 use borrow.Author.Needs.{needs}
 use Rattle.sharing.proofs.plant.row_of.Statement.{statement}
 use Rattle.sharing.proofs.plant.row_of.Tie as tie
-use Rattle.sharing.proofs.plant.row_of.Reads as reads
-use Rattle.sharing.proofs.plant.row_of.Lts as lts
-use Rattle.power.proofs.kilowatts.Kw.is_at_most.Reads as is-at-most-reads
-use Rattle.power.proofs.kilowatts.Kw.minus.Reads as minus-reads
-use Rattle.sharing.proofs.kinds.Kind.row.Reads as row-reads
-use Rattle.sharing.proofs.kinds.Kind.weighed.Reads as weighed-reads
-use Rattle.sharing.proofs.kinds.magnitude.Reads as magnitude-reads
-use Rattle.sharing.proofs.plant.error_of.Reads as error-of-reads
-use Rattle.sharing.proofs.plant.open_of.Reads as open-of-reads
-use Rattle.sharing.proofs.shares.share.Reads as share-reads
 
 module _ (s : tie.Start) where
   abbrev d : ℤ
@@ -100,16 +90,23 @@ row-requires-3 c κs =
 open-of-requires : tie.Need-open-of-requires
 open-of-requires c κs = search needs
 
+-- the place after the error's size is known
+abbrev sized-at : tie.After-open-of → tie.After-magnitude
+sized-at c = c .before .before .before .before .before .before .before .before
+
+open-is : (c : tie.After-open-of) → c .open-of .result .0 ≡ openOf (d (start (sized-at c))) (kinds (start (sized-at c)))
+open-is c =
+    c .open-of .ensures ∙ ap (λ (z : ℤ). openOf z (kinds (start (sized-at c)))) (sized-at c .before .before .before .minus .ensures)
+
 returns : tie.Need-returns
 returns c =
     let h = c .before .before .before .before in
-    let w = h .before in
-    let m = w .before .before .before in
+    let m = sized-at c in
     let s = start m in
     answer _ _ _ _ _ _ (due s) (s .pre .kinds)
-    (row-is (d s) (s .args .fcr) (s .args .afrr) (s .args .mfrr) _ _ _ _ (h .share .result) (error-is (m .before .before)) (m .before .is-at-most .ensures) (m .magnitude .ensures)
-    (all-weighed w) (h .share .ensures .are) _ _ _ _ (c .before .before .before .row .ensures) (c .before .before .row2 .ensures) (c .before .row3 .ensures)
-    (c .open-of .ensures ∙ ap (λ (z : ℤ). openOf z (kinds s)) (m .before .before .before .minus .ensures)))
+    (row-is (d s) (s .args .fcr) (s .args .afrr) (s .args .mfrr) _ _ _ _ (h .share .result)
+    (error-is (m .before .before)) (m .before .is-at-most .ensures) (m .magnitude .ensures) (all-weighed (h .before)) (h .share .ensures .are)
+    _ _ _ _ (c .before .before .before .row .ensures) (c .before .before .row2 .ensures) (c .before .row3 .ensures) (open-is c))
 
 pub row-of-spec : {M : Type 1} → statement M
 row-of-spec =
