@@ -25,14 +25,11 @@ fn put_plant(buf: &mut [u8], at: usize, letter: u8, x: Row) -> usize
     requires { ⌜ at + plantWidth ≤ length (now buf) ⌝ }
     ensures { λ r. ⌜ Put plantWidth (now (buf .entry)) (now (buf .exit)) at r (plantText letter x) ⌝ }
 {
-    let fcr = x.fcr;
-    let afrr = x.afrr;
-    let mfrr = x.mfrr;
     let at = put_byte(buf, at, b' ');
     let at = put_byte(buf, at, letter);
-    let at = put_field(buf, at, fcr.actual);
-    let at = put_field(buf, at, afrr.actual);
-    let at = put_field(buf, at, mfrr.actual);
+    let at = put_field(buf, at, x.fcr.actual);
+    let at = put_field(buf, at, x.afrr.actual);
+    let at = put_field(buf, at, x.mfrr.actual);
     put_field(buf, at, x.open)
 }
 
