@@ -40,8 +40,8 @@ fn put_second(buf: &mut [u8], second: u32, u: Row, a: Row, b: Row) -> usize
     let at = put_count(buf, 0, second);
     let at = put_plant(buf, at, b'U', u);
     let at = put_plant(buf, at, b'A', a);
-    let end = put_plant(buf, at, b'B', b);
-    put_byte(buf, end, b'\n')
+    let at = put_plant(buf, at, b'B', b);
+    put_byte(buf, at, b'\n')
 }
 
 fn put_named(buf: &mut [u8], at: usize, name: &[u8], v: KwSeconds) -> usize
