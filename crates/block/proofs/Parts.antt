@@ -4,7 +4,7 @@ use mathlib.Core.Bool.{Bool, true, false, _&&_}
 use mathlib.Core.List.{List, [], _∷_, _++_}
 use Prim.Native.Nat.{ℕ, zero, suc, _+_, _*_, _-_, _/_, _%_, _≤_, _<_}
 use native.Mathlib.Omega.{arith}
-use lib.ListN.{length, getD, take, drop, length-take, length-drop, length-append}
+use lib.ListN.{length, getD, length-take, length-drop, length-append}
 use lib.Dec.{eqb}
 use lib.Seq.{drop-cons, take-add, drop-drop, take-all, take-at, getD-append-add}
 use borrow.Author.Tests.{eq-eqb, ne-eqb, eqb-true}

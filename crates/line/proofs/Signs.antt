@@ -1,18 +1,18 @@
 -- A signed number's magnitude and sign, as `magnitude` computes them: of a number below 0 by way of the number next to it. Assumes nothing.
-use mathlib.Core.Path.{_≡_, refl, sym, ap, _∙_, subst}
-use mathlib.Core.Bool.{Bool, true, false}
-use mathlib.Core.List.{List, _++_}
-use Prim.Native.Nat.{ℕ, suc, _+_, _-_, _^_, _≤_, _<_}
+use mathlib.Core.Path.{_≡_, refl, subst}
+use mathlib.Core.Bool.{true, false}
+use mathlib.Core.List.{_++_}
+use Prim.Native.Nat.{_+_, _-_, _^_, _≤_, _<_}
 use native.Mathlib.Omega.{arith}
 use lib.Dec.{T}
 use lib.IntN.{ℤ, pos, negsuc, natAbs, _+ℤ_, _-ℤ_}
-use lib.Signed.{mag, ltZ, nonNeg}
+use lib.Signed.{ltZ, nonNeg}
 use mir.Syntax.{w64}
-use mir.Val.{Fits, SFits}
+use mir.Val.{SFits}
 use borrow.Author.Tests.{ltb-true}
 use native.Mathlib.Nat.{not-suc-le-zero}
 use Rattle.numbers.proofs.Parts.{nat-eq, add-nat, sub-nat, fits-order}
-use Rattle.line.specs.Text.{ascii, sign, digits, decimal}
+use Rattle.line.specs.Text.{ascii, digits, decimal}
 
 -- below 0: the number next to v, its negation, and how far that is from the magnitude
 pub record Below (v : ℤ) : Type 0 where

@@ -9,7 +9,7 @@ use Rattle.line.specs.declared.Answer.{Answer}
 use Rattle.line.specs.declared.Answer.the-variants.{Length, Refused}
 
 -- "22 buffer under 200 bytes, untouched. Otherwise it answers the line's length, and bytes past the line stay."
--- `least` is 200 there; b holds the buffer's bytes before.
+-- `least` is 200 there, and b holds the buffer's bytes before. Each case of the answer with its number or its value:
 abbrev pub answerOf : ℕ → List ℕ → List ℕ → Answer
 answerOf least b text = cond (ltb (length b) least) (Refused 22) (Length (length text))
 
@@ -25,4 +25,5 @@ lengthIn (Refused n) = 0
 pub record Lined (least : ℕ) (b e : List ℕ) (r : Answer) (text : List ℕ) : Type 0 where
   pub answer : r ≡ answerOf least b text
   pub buffer : e ≡ bufferOf least b text
+  pub most : lengthIn r ≤ least
   pub within : lengthIn r ≤ length b

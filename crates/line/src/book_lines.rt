@@ -25,14 +25,11 @@ fn put_plant(buf: &mut [u8], at: usize, letter: u8, x: Row) -> usize
     requires { ⌜ at + plantWidth ≤ length (now buf) ⌝ }
     ensures { λ r. ⌜ Put plantWidth (now (buf .entry)) (now (buf .exit)) at r (plantText letter x) ⌝ }
 {
-    let fcr = x.fcr;
-    let afrr = x.afrr;
-    let mfrr = x.mfrr;
     let at = put_byte(buf, at, b' ');
     let at = put_byte(buf, at, letter);
-    let at = put_field(buf, at, fcr.actual);
-    let at = put_field(buf, at, afrr.actual);
-    let at = put_field(buf, at, mfrr.actual);
+    let at = put_field(buf, at, x.fcr.actual);
+    let at = put_field(buf, at, x.afrr.actual);
+    let at = put_field(buf, at, x.mfrr.actual);
     put_field(buf, at, x.open)
 }
 
@@ -43,8 +40,8 @@ fn put_second(buf: &mut [u8], second: u32, u: Row, a: Row, b: Row) -> usize
     let at = put_count(buf, 0, second);
     let at = put_plant(buf, at, b'U', u);
     let at = put_plant(buf, at, b'A', a);
-    let end = put_plant(buf, at, b'B', b);
-    put_byte(buf, end, b'\n')
+    let at = put_plant(buf, at, b'B', b);
+    put_byte(buf, at, b'\n')
 }
 
 fn put_named(buf: &mut [u8], at: usize, name: &[u8], v: KwSeconds) -> usize

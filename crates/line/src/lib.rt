@@ -8,7 +8,6 @@ mod sums;
 
 ghost use mathlib.Core.Path.{_≡_};
 ghost use Rattle.line.specs.Lined.{lengthIn};
-
 pub use book_lines::refusal_line;
 pub use book_lines::second_line;
 pub use book_lines::sum_line;

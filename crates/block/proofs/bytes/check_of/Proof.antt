@@ -1,6 +1,6 @@
 -- `block::bytes::check_of` meets its contract. The invariant: the sum so far and the terms of the bytes that are left make the check.
 -- Assumes nothing.
-use mathlib.Core.Path.{_≡_, sym, ap, _∙_}
+use mathlib.Core.Path.{_≡_}
 use Prim.Native.Nat.{_+_, _*_, _-_, _≤_}
 use native.Mathlib.Omega.{arith}
 use borrow.Author.Needs.{needs}

@@ -1,5 +1,5 @@
 -- `block::bytes::weighed` meets its contract: no byte is above 255. Assumes nothing.
-use Prim.Native.Nat.{ℕ, _+_, _*_, _≤_, _<_}
+use Prim.Native.Nat.{_+_, _*_, _≤_}
 use native.Mathlib.Nat.{mul-le-mul}
 use native.Mathlib.Omega.{arith}
 use Rattle.block.specs.Places.{checkAt}

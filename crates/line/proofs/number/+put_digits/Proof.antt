@@ -25,13 +25,14 @@ module _ (t : ℕ) where
   pre = and 1 put-digits-kinds.ps (is 1 put-digits-kinds.ps μ-put-digits t) put-digits.Pre
 
   abbrev calls : lts.Claims
-  calls =
-      (glyph-reads.Asked,
-      glyph-reads.Learnt,
-      put-byte-reads.Asked,
-      put-byte-reads.Learnt,
-      and 1 put-digits-kinds.ps (falls 1 put-digits-kinds.ps _<_ μ-put-digits t) put-digits.Pre,
-      put-digits.Post)
+  calls = (
+    glyph-reads.Asked,
+    glyph-reads.Learnt,
+    put-byte-reads.Asked,
+    put-byte-reads.Learnt,
+    and 1 put-digits-kinds.ps (falls 1 put-digits-kinds.ps _<_ μ-put-digits t) put-digits.Pre,
+    put-digits.Post,
+  )
 
   glyph-requires : lts.Need-glyph-requires calls pre put-digits.Post
   glyph-requires c κs = omega arith
