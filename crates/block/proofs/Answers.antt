@@ -1,43 +1,12 @@
--- What a number says of the rules: it is 0 exactly when none applies. What an answer says of its number. Assumes nothing.
-use mathlib.Core.Path.{_≡_, refl, sym, _∙_, subst}
-use mathlib.Core.Bool.{Bool, true, false, cond, _&&_}
-use mathlib.Core.List.{List, [], _∷_}
+-- What an answer says of its number. Assumes nothing.
+use mathlib.Core.Path.{_≡_, refl}
+use mathlib.Core.Bool.{false}
+use mathlib.Core.List.{List}
 use Prim.Native.Nat.{ℕ, zero, suc, _<_, zero-le, suc-le-suc}
-use native.Mathlib.Nat.{not-suc-le-zero, le-of-eq}
-use lib.Dec.{T, eqb, ltb}
+use lib.Dec.{eqb}
 use borrow.Author.Tests.{eqb-true, not-false}
-use Rattle.block.specs.Rules.{Rule, first, differ, values, refused, answered}
-use Rattle.block.proofs.Tests.{passes}
-
-pub both-true : (t u : Bool) → (t && u) ≡ true → (t ≡ true) × (u ≡ true)
-both-true true u e = (refl, e)
-both-true false u e = absurd (subst T (sym e) tt)
-
--- no rule applies
-abbrev pub None : List Rule → Type 0
-None [] = Unit
-None (r ∷ rs) = (r .applies ≡ false) × None rs
-
--- every rule has a number, which antt computes
-abbrev pub numbered : List Rule → Bool
-numbered [] = true
-numbered (r ∷ rs) = ltb 0 (r .number) && numbered rs
-
-next : (t : Bool) (n m : ℕ) → ltb 0 n ≡ true → cond t n m ≡ 0 → (t ≡ false) × (m ≡ 0)
-next true zero m p e = absurd (subst T (sym p) tt)
-next true (suc n) m p e = absurd (not-suc-le-zero (le-of-eq e))
-next false n m p e = (refl, e)
-
-pub none : (rs : List Rule) → numbered rs ≡ true → first rs ≡ 0 → None rs
-none [] p e = tt
-none (r ∷ rs) p e =
-    let q = both-true (ltb 0 (r .number)) (numbered rs) p in
-    let n = next (r .applies) (r .number) (first rs) (q .0) e in
-    (n .0, none rs (q .1) (n .1))
-
-pub no-number : (rs : List Rule) → None rs → first rs ≡ 0
-no-number [] p = refl
-no-number (r ∷ rs) p = passes _ _ (p .0) ∙ no-number rs (p .1)
+use Rattle.numbers.specs.Rules.{differ}
+use Rattle.block.specs.Said.{values, refused, answered}
 
 -- an answer with values has no number
 pub accepted : (n : ℕ) (vs ws : List ℕ) → answered n vs ≡ values ws → (n ≡ 0) × (vs ≡ ws)

@@ -9,7 +9,7 @@ use Rattle.codec.specs.Little.{u16At}
 use Rattle.block.specs.Places.{checkAt, bodyAt, headerEnd, countEnd, secondSize, perBlock, version}
 use Rattle.block.specs.Bytes.{part, allZero, zeros, le4}
 use Rattle.block.specs.Check.{checkOf}
-use Rattle.block.specs.Rules.{values, answered}
+use Rattle.block.specs.Said.{values, answered}
 use Rattle.block.specs.Header.{name, ownerOf, secondsOf, headerOf}
 use Rattle.block.specs.Block.{countOf, dueIn, secondAt, blockOf, secondOf}
 use Rattle.block.specs.Layout.{closed, headerBytes, blockBytes, HeaderLayout, BlockLayout, Bytes, Exactly}

@@ -13,7 +13,7 @@ use Rattle.block.specs.Places.{blockSize, checkAt}
 use Rattle.block.specs.Bytes.{part, allZero, zeros, le4}
 use Rattle.block.specs.Check.{weights, checkOf}
 use Rattle.block.specs.Layout.{closed, Bytes}
-use Rattle.block.proofs.Answers.{both-true}
+use Rattle.numbers.proofs.Rules.{both-true}
 
 pub part-none : (s : List ℕ) (i end : ℕ) → end ≤ i → part s i end ≡ []
 part-none s i end h =

@@ -10,11 +10,12 @@ use Rattle.codec.specs.Little.{u16At, u32At}
 use Rattle.block.specs.Places.{blockSize, checkAt, bodyAt, headerEnd, countEnd, perBlock, mostSeconds, mostOwner, version}
 use Rattle.block.specs.Bytes.{part, allZero}
 use Rattle.block.specs.Check.{checkOf}
-use Rattle.block.specs.Rules.{values}
+use Rattle.block.specs.Said.{values}
 use Rattle.block.specs.Header.{name, ownerOf, secondsOf, headerRules, headerNumber, headerOf}
 use Rattle.block.specs.Block.{countOf, dueIn, secondAt, blockRules, blockNumber, blockOf}
 use Rattle.block.proofs.Tests.{unequal, not-less, agrees}
-use Rattle.block.proofs.Answers.{none, no-number, accepted, same, positive}
+use Rattle.numbers.proofs.Rules.{none, no-number}
+use Rattle.block.proofs.Answers.{accepted, same, positive}
 
 pub record TakenHeader (s : List ℕ) : Type 0 where
   pub len : length s ≡ blockSize

@@ -12,7 +12,8 @@ use Rattle.codec.specs.Little.{u32At}
 use Rattle.block.specs.Places.{blockSize, checkAt, bodyAt, countEnd, secondSize, perBlock}
 use Rattle.block.specs.Bytes.{part, allZero}
 use Rattle.block.specs.Check.{checkOf}
-use Rattle.block.specs.Rules.{Rule, refuse, first, differ, Said, values, refused, answered}
+use Rattle.numbers.specs.Rules.{Rule, refuse, first, differ}
+use Rattle.block.specs.Said.{Said, values, refused, answered}
 
 abbrev pub countOf : List ℕ → ℕ
 countOf s = getD s 4 0

@@ -11,7 +11,8 @@ use Rattle.codec.specs.Little.{u16At, u32At}
 use Rattle.block.specs.Places.{blockSize, checkAt, headerEnd, mostSeconds, mostOwner, version}
 use Rattle.block.specs.Bytes.{part, allZero}
 use Rattle.block.specs.Check.{checkOf}
-use Rattle.block.specs.Rules.{Rule, refuse, first, differ, Said, values, refused, answered}
+use Rattle.numbers.specs.Rules.{Rule, refuse, first, differ}
+use Rattle.block.specs.Said.{Said, values, refused, answered}
 
 -- the first four bytes
 abbrev pub name : List ℕ

@@ -6,7 +6,7 @@ use lib.ListN.{length, getD, take, drop}
 use Rattle.block.specs.Places.{checkAt, bodyAt, headerEnd, countEnd, secondSize, mostSeconds, mostOwner, version}
 use Rattle.block.specs.Bytes.{zeros, le4}
 use Rattle.block.specs.Check.{checkOf}
-use Rattle.block.specs.Rules.{values}
+use Rattle.block.specs.Said.{values}
 use Rattle.block.specs.Header.{name, headerOf}
 use Rattle.block.specs.Block.{dueIn, secondAt, blockOf, secondOf}
 

@@ -1,7 +1,7 @@
 pub mod Places
 pub mod Bytes
 pub mod Check
-pub mod Rules
+pub mod Said
 pub mod Header
 pub mod Block
 pub mod Layout

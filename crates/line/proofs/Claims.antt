@@ -11,7 +11,7 @@ use mir.Syntax.{w64}
 use mir.Val.{SFits}
 use Rattle.row.specs.declared.KindRow.{KindRow}
 use Rattle.row.specs.declared.Row.{Row}
-use Rattle.line.specs.declared.sums.Sums.{Sums}
+use Rattle.row.specs.declared.sums.Sums.{Sums}
 use Rattle.line.specs.Text.{ascii, digits, digitsIn, decimal, field, named}
 use Rattle.line.specs.Widths.{lineRoom, rowRoom, plantWidth, kindWidth, sumWidth}
 use Rattle.line.specs.Line.{plantText, secondText, sumText, refusalText, kindText, rowText}

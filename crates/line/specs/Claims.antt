@@ -9,7 +9,7 @@ use mir.Val.{SFits}
 use Rattle.power.specs.Units.{kw}
 use Rattle.row.specs.declared.KindRow.{KindRow}
 use Rattle.row.specs.declared.Row.{Row}
-use Rattle.line.specs.declared.sums.Sums.{Sums}
+use Rattle.row.specs.declared.sums.Sums.{Sums}
 use Rattle.line.specs.Text.{ascii, decimal}
 use Rattle.line.specs.Widths.{lineRoom, rowRoom}
 use Rattle.line.specs.Line.{secondText, sumText, refusalText, rowText}

@@ -4,7 +4,7 @@ use Prim.Native.Char.{code}
 use mathlib.Core.List.{List, [], _∷_, _++_}
 use Rattle.row.specs.declared.KindRow.{KindRow}
 use Rattle.row.specs.declared.Row.{Row}
-use Rattle.line.specs.declared.sums.Sums.{Sums}
+use Rattle.row.specs.declared.sums.Sums.{Sums}
 use Rattle.line.specs.Text.{ascii, digits, field, named}
 
 -- "each letter is followed by the actual values of FCR, aFRR, mFRR, then open"

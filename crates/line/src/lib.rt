@@ -4,7 +4,6 @@ mod book_lines;
 mod number;
 mod put;
 mod row_lines;
-mod sums;
 
 ghost use mathlib.Core.Path.{_≡_};
 ghost use Rattle.line.specs.Lined.{lengthIn};
@@ -12,8 +11,6 @@ pub use book_lines::refusal_line;
 pub use book_lines::second_line;
 pub use book_lines::sum_line;
 pub use row_lines::plant_line;
-pub use sums::KwSeconds;
-pub use sums::Sums;
 
 // The refusal of a buffer with too little room.
 const TOO_SMALL: u8 = 22;

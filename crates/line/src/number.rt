@@ -1,7 +1,7 @@
 // Numbers in decimal.
 use crate::put::put_byte;
-use crate::sums::KwSeconds;
 use power::Kw;
+use row::KwSeconds;
 ghost use mathlib.Core.Path.{_≡_};
 ghost use Prim.Native.Nat.{_+_, _≤_, _<_};
 ghost use lib.IntN.{natAbs, pos};

@@ -121,8 +121,7 @@ module _ (h : History) (a : Accepted h) (x : Record) (accepted-x : recordNumberA
   all-published : AllPublished (kindList h x)
   unfolding kindsAt
   all-published =
-      let p = cleared .passed-1-to-7 in
-      (
+      let p = cleared .passed-1-to-7 in (
         (λ on. fcr-claims.claims .published (fcrPast h) (fcrSetpoint x) (x .«fcr_held») (p .fcr-held .sign)),
         (
           (λ on. afrr-claims.claims .published (afrrPast h) (afrrSecond x) (afrr-second-fair (length h) x p)),

@@ -125,7 +125,14 @@ impl PlantState {
     }
 
     // With what mFRR gave: the other kinds, the row, and the state after it; or 11.
-    fn with_mfrr(self, x: Record, mfrr: Kind, next: MfrrState, measured: Kw, working_point: Kw) -> PlantStep
+    fn with_mfrr(
+        self,
+        x: Record,
+        mfrr: Kind,
+        next: MfrrState,
+        measured: Kw,
+        working_point: Kw,
+    ) -> PlantStep
         requires { ⌜ Going self x mfrr next (measured .0) («working_point» .0) ⌝ }
         ensures { λ r. ⌜ KindsStepped self x mfrr next (measured .0) («working_point» .0) r ⌝ }
     {

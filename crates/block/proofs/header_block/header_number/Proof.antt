@@ -4,7 +4,7 @@ use mathlib.Core.Path.{_≡_, refl, sym, _∙_}
 use Prim.Native.Nat.{ℕ}
 use lib.ListN.{drop}
 use denote.Ref.{now}
-use Rattle.block.specs.Rules.{first}
+use Rattle.numbers.specs.Rules.{first}
 use Rattle.block.specs.Header.{headerRules, headerNumber}
 use Rattle.block.proofs.Tests.{equal, unequal, less, not-less, differs, agrees, negated, applies, passes}
 use borrow.Author.Needs.{needs}

@@ -6,7 +6,7 @@ use lib.ListN.{drop}
 use denote.Ref.{now}
 use Rattle.block.specs.Places.{checkAt}
 use Rattle.block.specs.Bytes.{part, allZero}
-use Rattle.block.specs.Rules.{first}
+use Rattle.numbers.specs.Rules.{first}
 use Rattle.block.specs.Block.{dueIn, secondAt, blockRules, blockNumber}
 use Rattle.block.proofs.Tests.{equal, unequal, differs, agrees, negated, applies, passes}
 use borrow.Author.Needs.{needs}

@@ -4,7 +4,7 @@ use Prim.Native.Nat.{ℕ}
 use mathlib.Core.List.{[], _∷_}
 use native.Mathlib.Omega.{arith}
 use denote.Ref.{now}
-use Rattle.block.specs.Rules.{answered}
+use Rattle.block.specs.Said.{answered}
 use Rattle.block.specs.Block.{countOf}
 use Rattle.block.proofs.Answers.{turned-down}
 use Rattle.block.proofs.Taken.{TakenBlock, taken-block}

@@ -15,7 +15,7 @@ is-resting-requires : tie.Need-is-resting-requires
 is-resting-requires c κs = search needs
 
 returns : tie.Need-returns
-returns c = 
+returns c =
     let a = c .before .before .before .before .args in
     from-rest (a .self) (a .t) (a .target) (a .end) (c .before .before .value .ensures) (sym (c .before .is-resting .ensures) ∙ c .if1 .taken)
 
@@ -26,7 +26,7 @@ put-first-requires : tie.Need-put-first-requires
 put-first-requires c κs = search needs
 
 returns-2 : tie.Need-returns-2
-returns-2 c = 
+returns-2 c =
     let v = c .before .before .before .before in
     let a = v .before .before .args in
     ending (a .self) (a .t) (a .target) (a .end) (v .value .ensures) (sym (c .before .before .before .is-resting .ensures) ∙ c .before .before .if1 .left) (c .before .leftover .ensures) (c .put-first .ensures)

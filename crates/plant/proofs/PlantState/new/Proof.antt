@@ -18,18 +18,18 @@ new-requires-3 c κs = search needs
 returns : tie.Need-returns
 unfolding stateOf
 returns c = (
-    λ i. record {
-      seconds = 0;
-      fcr = c .before .before .new .ensures .0 i;
-      afrr = c .before .new2 .ensures .0 i;
-      mfrr = c .new3 .ensures .0 i;
-    },
-    record {
-      count = omega arith;
-      fcr = c .before .before .new .ensures .1;
-      afrr = c .before .new2 .ensures .1;
-      mfrr = c .new3 .ensures .1;
-    },
+  λ i. record {
+    seconds = 0;
+    fcr = c .before .before .new .ensures .0 i;
+    afrr = c .before .new2 .ensures .0 i;
+    mfrr = c .new3 .ensures .0 i;
+  },
+  record {
+    count = omega arith;
+    fcr = c .before .before .new .ensures .1;
+    afrr = c .before .new2 .ensures .1;
+    mfrr = c .new3 .ensures .1;
+  },
 )
 
 pub new-spec : {M : Type 1} → statement M
