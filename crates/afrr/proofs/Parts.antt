@@ -14,7 +14,7 @@ use Rattle.power.specs.declared.kilowatts.Kw.{Kw}
 use Rattle.power.specs.Units.{perKw, inGrains, fivePercent}
 use Rattle.afrr.specs.declared.Second.{Second}
 use Rattle.afrr.specs.Band.{spread, least, gradientBy, heldOf}
-use Rattle.afrr.specs.State.{gradientMost, Fair, Holds}
+use Rattle.afrr.specs.State.{fiveMost, gradientMost, Fair, Holds}
 
 -- ---- the gradient of the extremes a and b
 
@@ -75,7 +75,7 @@ module _ (x : Second) where
     held-sign : pos 0 ≤ℤ heldOf x
     held-sign = of-held (λ (z : ℤ). pos 0 ≤ℤ z) (f .up-sign) (f .down-sign)
 
-    pub five-within : Within (50000 * perKw) (fivePercent (heldOf x))
+    pub five-within : Within (fiveMost * perKw) (fivePercent (heldOf x))
     five-within = let p = held-within in search fit
 
     pub five-sign : pos 0 ≤ℤ fivePercent (heldOf x)

@@ -1,5 +1,5 @@
 -- What the aFRR state holds after a past, and what a step answers.
-use Prim.Native.Nat.{ℕ, _-_, _*_}
+use Prim.Native.Nat.{ℕ, _+_, _-_, _*_}
 use mathlib.Core.Path.{_≡_}
 use mathlib.Core.List.{List, [], _∷_}
 use lib.IntN.{ℤ, pos}
@@ -21,9 +21,12 @@ use Rattle.afrr.specs.Band.{reach, setpoints, largest, smallest, heldOf,
 unfoldable pub stateOf : List Second → AfrrState
 stateOf h = record { past = newest reach (setpoints h); limits = lastLimits h }
 
--- no limit is farther from 0 than this, in kW: the largest setpoint and 5 % of the largest held power
+-- 5 % of the largest held power, in kW; and no limit is farther from 0 than the largest setpoint and that
+abbrev pub fiveMost : ℕ
+fiveMost = 50000
+
 abbrev pub limitMost : ℕ
-limitMost = 1050000
+limitMost = 1000000 + fiveMost
 
 -- what is asked of a state
 pub record Ready (st : AfrrState) : Type 0 where
@@ -83,7 +86,7 @@ pub record Sources (recent last g s five : ℤ) : Type 0 where
   pub g-range : Within gradientMost g
   pub g-sign : pos 0 ≤ℤ g
   pub s-range : Within 1000000 s
-  pub five-range : Within (50000 * perKw) five
+  pub five-range : Within (fiveMost * perKw) five
   pub five-sign : pos 0 ≤ℤ five
 
 -- the state after a second with the setpoint s and the limits l, which stay exact

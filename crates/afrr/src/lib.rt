@@ -168,9 +168,9 @@ pub fn new() -> AfrrState
 fn moved(state: AfrrState, s: Kw, limits: Limits) -> AfrrState
     ensures { λ r. ⌜ Moved state s limits r ⌝ }
 {
-    let past = state.past;
+    let before = state.past;
     AfrrState {
-        past: shifted(past, s),
+        past: shifted(before, s),
         limits,
     }
 }

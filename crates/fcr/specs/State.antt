@@ -52,7 +52,7 @@ pub record Stepped (st : FcrState) (s held : Kw) (r : FcrStep) : Type 0 where
 
 -- ---- what the other operations answer
 
-pub record Asked (held deviation r : ℤ) : Type 0 where
+pub record IsSetpoint (held deviation r : ℤ) : Type 0 where
   pub is : r ≡ setpointOf held deviation
   pub small : Within 1000000 r
 

@@ -8,7 +8,7 @@ ghost use Rattle.numbers.specs.Bounds.{Within};
 ghost use Rattle.power.specs.Past.{Ranged};
 ghost use Rattle.fcr.specs.Setpoint.{fullActivation};
 ghost use Rattle.fcr.specs.Band.{lastAge, weight, fallOf, riseOf, toleranceOf};
-ghost use Rattle.fcr.specs.State.{changeMost, weightMost, sumMost, stateOf, Ready, Fair, Asked, Stepped, Weighed, limitsBy};
+ghost use Rattle.fcr.specs.State.{changeMost, weightMost, sumMost, stateOf, Ready, Fair, IsSetpoint, Stepped, Weighed, limitsBy};
 use power::Band;
 use power::Grains;
 use power::Kw;
@@ -58,7 +58,7 @@ fn droop(held: Kw, deviation: Millihertz) -> Kw
 // The setpoint, of the held power and the deviation.
 pub fn setpoint(held: Kw, deviation: Millihertz) -> Kw
     requires { ⌜ Within 1000000 (held .0) ⌝ }
-    ensures { λ r. ⌜ Asked (held .0) (deviation .0) (r .0) ⌝ }
+    ensures { λ r. ⌜ IsSetpoint (held .0) (deviation .0) (r .0) ⌝ }
 {
     let f = deviation.0;
     if -DEAD_BAND <= f && f <= DEAD_BAND {

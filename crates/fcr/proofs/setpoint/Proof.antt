@@ -9,14 +9,14 @@ use Rattle.numbers.specs.Bounds.{Within}
 use Rattle.numbers.proofs.Fit.{fit}
 use Rattle.numbers.proofs.Test.{tests}
 use Rattle.fcr.specs.Setpoint.{deadBand, fullActivation, setpointOf}
-use Rattle.fcr.specs.State.{Asked}
+use Rattle.fcr.specs.State.{IsSetpoint}
 use Rattle.fcr.proofs.Cases.{by-droop}
 use Rattle.fcr.proofs.Range.{partly, setpoint-within}
 use Rattle.fcr.proofs.setpoint.Statement.{statement}
 use Rattle.fcr.proofs.setpoint.Tie as tie
 
 -- what is to be shown of a result
-met : (s : tie.Start) {r : ℤ} → r ≡ setpointOf (s .args .held .0) (s .args .deviation .0) → Asked (s .args .held .0) (s .args .deviation .0) r
+met : (s : tie.Start) {r : ℤ} → r ≡ setpointOf (s .args .held .0) (s .args .deviation .0) → IsSetpoint (s .args .held .0) (s .args .deviation .0) r
 met s e = record { is = e; small = subst (Within 1000000) (sym e) (setpoint-within _ (s .args .deviation .0) (s .pre)) }
 
 -- past the first branch
