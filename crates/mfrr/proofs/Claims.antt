@@ -1,6 +1,6 @@
 -- The claims hold. Assumes nothing.
-use mathlib.Core.Path.{_≡_, _∙_}
-use mathlib.Core.List.{List, [], _∷_}
+use mathlib.Core.Path.{_≡_}
+use mathlib.Core.List.{_∷_}
 use Prim.Native.Nat.{ℕ, _-_, _≤_}
 use native.Mathlib.Omega.{arith}
 use lib.IntN.{ℤ, pos, _-ℤ_, _*ℤ_}
@@ -9,7 +9,7 @@ use Rattle.numbers.proofs.Parts.{shows, add-nat, quot-nat, mul-nat}
 use Rattle.power.specs.Inward.{Contains}
 use Rattle.power.proofs.Inside.{published-contains}
 use Rattle.mfrr.specs.Signal.{quarterHour, Second, quiet, call, History, signal, phaseNow, setpointAt, valueAt, valueOf, rampUp, rampPart}
-use Rattle.mfrr.specs.Leftovers.{Leftover, leftovers, counting}
+use Rattle.mfrr.specs.Leftovers.{leftovers, counting}
 use Rattle.mfrr.specs.Band.{limitsAt}
 use Rattle.mfrr.specs.Refusals.{leftoversMost, Accepted}
 use Rattle.mfrr.specs.State.{places}

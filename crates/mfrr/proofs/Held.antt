@@ -10,7 +10,7 @@ use lib.Dec.{ltb, leb, eqb}
 use lib.ListN.{length, replicate, length-replicate, length-map}
 use Rattle.power.specs.declared.limits.Limits.{Limits}
 use Rattle.mfrr.specs.declared.leftovers.Leftover as state
-use Rattle.mfrr.specs.Signal.{Second, quiet, call, History, Phase, signal, phaseAt, isResting}
+use Rattle.mfrr.specs.Signal.{quiet, call, History, Phase, signal, phaseAt, isResting}
 use Rattle.mfrr.specs.Leftovers.{Leftover, leftoverOf, ended, leftovers, counting}
 use Rattle.mfrr.specs.Refusals.{leftoversMost, refusal, Accepted}
 use Rattle.mfrr.specs.State.{leftoverFrom, unused, put, freeAt, placed, places, stateOf, older, held, isFree}
@@ -134,12 +134,14 @@ module _ (t : ℕ) where
       go true k = refl
       go false k = k
 
+  older-left : (x : Leftover) → older (leftoverFrom t x) .left ≡ x .free - (t + 1)
+  unfolding leftoverFrom
+  older-left x = omega arith
+
   pub older-from : (ps : List Leftover) → map older (map (leftoverFrom t) ps) ≡ map (leftoverFrom (t + 1)) ps
   unfolding leftoverFrom
   older-from [] = refl
-  older-from (p ∷ ps) =
-      let m : p .free - t - 1 ≡ p .free - (t + 1) = omega arith in
-      rw (m, older-from ps)
+  older-from (p ∷ ps) = λ i. record { limits = p .limits; left = older-left p i } ∷ older-from ps i
 
 pub holds : (h : History) → Accepted h → held (stateOf h .leftovers) ≡ counting (length h) (leftovers h)
 unfolding stateOf

@@ -1,7 +1,7 @@
 -- A step from the state after a past gives what the past gives. Assumes nothing.
-use mathlib.Core.Path.{_≡_, refl, sym, ap, _∙_}
+use mathlib.Core.Path.{_≡_, refl}
 use mathlib.Core.Bool.{Bool, true, false, cond}
-use mathlib.Core.List.{List, [], _∷_, map}
+use mathlib.Core.List.{[], _∷_, map}
 use Prim.Native.Nat.{ℕ, zero, suc, _+_, _-_, _≤_}
 use native.Mathlib.Numerals.{add-one}
 use native.Mathlib.Omega.{arith}
@@ -9,19 +9,16 @@ use lib.IntN.{ℤ}
 use lib.ListN.{length}
 use Rattle.power.specs.Units.{kw}
 use Rattle.mfrr.specs.declared.MfrrState.{MfrrState}
-use Rattle.mfrr.specs.declared.MfrrStep.{MfrrStep}
 use Rattle.mfrr.specs.declared.MfrrAnswer.the-variants.{Given, Refused}
 use Rattle.mfrr.specs.declared.signal.Phase.the-variants.{RampingUp}
 use Rattle.mfrr.specs.Signal.{quarterHour, Second, quiet, call, History, Signal, none, runs, Phase, signal, phaseAt, phaseNow, valueAt, setpointAt, isResting}
-use Rattle.mfrr.specs.Limits.{limitsOf}
-use Rattle.mfrr.specs.Leftovers.{leftoverOf, leftovers, counting}
+use Rattle.mfrr.specs.Leftovers.{leftoverOf, leftovers}
 use Rattle.mfrr.specs.Band.{limitsAt, bandAt}
 use Rattle.mfrr.specs.Refusals.{refusal, Accepted}
-use Rattle.mfrr.specs.State.{valueIn, laterIn, older, phaseFrom, leftoverFrom, put, freeAt, placed, places, stateOf, Ready, restingIn, leftoverIn, isFree, placedIn, held, numberOf, refusalIn, calledIn, takenIn, limitsNow, acceptedIn, stepBy, stepIn, stepOf}
+use Rattle.mfrr.specs.State.{valueIn, laterIn, older, phaseFrom, leftoverFrom, put, freeAt, placed, places, stateOf, restingIn, leftoverIn, isFree, placedIn, numberOf, refusalIn, calledIn, takenIn, limitsNow, acceptedIn, stepBy, stepIn, stepOf}
 use Rattle.mfrr.proofs.Rules.{passed}
 use Rattle.mfrr.proofs.Phases.{is-up, resting-from, value-from, limits-from, Begun, leftover-from, later-from}
 use Rattle.mfrr.proofs.Held.{held-all, held-from, put-from, older-from, holds}
-use Rattle.mfrr.proofs.Ready.{fresh, called-ready, next-ready}
 
 -- ---- every call of an accepted past has begun
 

@@ -5,10 +5,9 @@ use mathlib.Core.Bool.{true}
 use mathlib.Core.List.{_∷_}
 use lib.IntN.{ℤ, pos}
 use lib.ListN.{length}
-use Rattle.numbers.specs.Bounds.{Within}
 use Rattle.power.specs.Units.{kw}
 use Rattle.power.specs.Inward.{Contains, Published}
-use Rattle.mfrr.specs.Signal.{powerMost, Second, quiet, call, History, phaseNow, isResting, setpointAt}
+use Rattle.mfrr.specs.Signal.{Second, quiet, call, History, phaseNow, isResting, setpointAt}
 use Rattle.mfrr.specs.Limits.{point}
 use Rattle.mfrr.specs.Leftovers.{leftovers, counting}
 use Rattle.mfrr.specs.Band.{limitsAt, bandAt}

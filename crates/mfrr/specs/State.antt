@@ -26,7 +26,7 @@ use Rattle.mfrr.specs.Leftovers.{leftoverOf}
 use Rattle.mfrr.specs.Band.{spanned, bandAt}
 use Rattle.mfrr.specs.Leftovers as past-leftovers
 use Rattle.mfrr.specs.Rules.{first}
-use Rattle.mfrr.specs.Refusals.{secondsMost, longestCall, leftoversMost, callRules, refusal}
+use Rattle.mfrr.specs.Refusals.{longestCall, leftoversMost, callRules, refusal}
 
 -- ---- what the state holds after a past
 

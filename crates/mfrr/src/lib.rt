@@ -6,16 +6,16 @@ mod signal;
 
 use band::point;
 use band::spanning;
+use leftovers::LEFTOVERS_MOST;
+pub use leftovers::Leftover;
 use leftovers::all_later;
 use leftovers::put_first;
 use leftovers::widen_all;
-use leftovers::LEFTOVERS_MOST;
 use power::Band;
 use power::Grains;
 use power::Kw;
 use power::Limits;
 use refusal::refusal_of;
-pub use leftovers::Leftover;
 pub use signal::Phase;
 ghost use mathlib.Core.Path.{_≡_};
 ghost use mathlib.Core.List.{[]};
@@ -100,11 +100,12 @@ impl MfrrState {
         let phase = self.phase;
         let leftovers = self.leftovers;
         let start = phase.value();
+        let left = end - t;
         let next = Phase::RampingUp {
             start,
             target,
             since: 0,
-            left: end - t,
+            left,
         };
         if phase.is_resting() {
             return MfrrState {

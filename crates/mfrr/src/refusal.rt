@@ -1,7 +1,7 @@
 // When a call is turned down (01, "When a book is turned down"): 8 for its target, 9 for its end, 10 for a ninth leftover.
-use crate::leftovers::count;
-use crate::leftovers::Leftover;
 use crate::leftovers::LEFTOVERS_MOST;
+use crate::leftovers::Leftover;
+use crate::leftovers::count;
 use crate::signal::Phase;
 use crate::signal::QUARTER_HOUR;
 use power::Kw;

@@ -1,6 +1,5 @@
 -- `mfrr::MfrrState::step` meets its contract, by the law of each of its ends. Assumes nothing.
 use mathlib.Core.Path.{_≡_, refl, sym, _∙_}
-use Prim.Native.Nat.{_≤_}
 use native.Mathlib.Omega.{arith}
 use borrow.Author.Tests.{not-true, not-false}
 use lib.ListN.{length}
@@ -18,7 +17,7 @@ accepted-requires c κs = search needs
 
 returns : tie.Need-returns
 unfolding secondOf refusalIn takenIn
-returns c = 
+returns c =
     let s = c .before .before in
     rw (not-true (s .args .call) (c .before .if1 .taken))
     (taken-in (s .args .self) (s .args .t) (s .pre .1) quiet refl (c .accepted .ensures))
@@ -28,7 +27,7 @@ refusal-of-requires c κs = search needs
 
 returns-2 : tie.Need-returns-2
 unfolding secondOf refusalIn
-returns-2 c = 
+returns-2 c =
     let s = c .before .before .before .before in
     rw (not-false (s .args .call) (c .before .before .before .if1 .left))
     (turned-down (s .args .self) (s .args .t) (s .pre .1) (call (s .args .target .0) (s .args .end)) (c .before .refusal-of .ensures) (c .if2 .taken))
@@ -43,20 +42,20 @@ free c z =
     call-passed (s .args .self) (s .args .t) (s .pre .1) (s .args .target) (s .args .end) (number c z)
 
 called-requires : tie.Need-called-requires
-called-requires c κs = 
+called-requires c κs =
     let s = c .before .before .before .before in
     let p = free (c .before) (c .if2 .left) in
     (omega (arith, p .end .least), s .pre .1)
 
 accepted-requires-2 : tie.Need-accepted-requires-2
-accepted-requires-2 c κs = 
+accepted-requires-2 c κs =
     let s = c .before .before .before .before .before in
     let p = free (c .before .before) (c .before .if2 .left) in
     rw (c .called .ensures) (called-ready (s .args .self) (s .pre .1) (s .args .t) (s .args .target) (s .args .end) (p .target) (p .end .most))
 
 returns-3 : tie.Need-returns-3
 unfolding secondOf refusalIn takenIn
-returns-3 c = 
+returns-3 c =
     let s = c .before .before .before .before .before .before in
     rw (not-false (s .args .call) (c .before .before .before .before .before .if1 .left))
     (taken-in
