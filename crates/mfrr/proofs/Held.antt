@@ -18,7 +18,7 @@ use Rattle.mfrr.proofs.Rules.{passed}
 
 -- ---- a put
 
-pub put-length : {A : Type 0} (free : A → Bool) (x : A) (ps : List A) → length (put free x ps) ≡ length ps
+put-length : {A : Type 0} (free : A → Bool) (x : A) (ps : List A) → length (put free x ps) ≡ length ps
 unfolding put
 put-length free x [] = refl
 put-length free x (p ∷ ps) = ap suc (go (put-length free p ps) (free p))

@@ -15,7 +15,7 @@ use Rattle.mfrr.specs.Signal.{quarterHour, Second, quiet, call, History,
 use Rattle.mfrr.specs.Leftovers.{leftoverOf, leftovers}
 use Rattle.mfrr.specs.Band.{limitsAt, bandAt}
 use Rattle.mfrr.specs.Refusals.{refusal, Accepted}
-use Rattle.mfrr.specs.State.{valueIn, laterIn, older, phaseFrom, leftoverFrom, put, freeAt, placed, places, stateOf, restingIn, leftoverIn, isFree, placedIn, numberOf, refusalIn, calledIn, takenIn, limitsNow, acceptedIn, stepBy, stepIn, stepOf}
+use Rattle.mfrr.specs.State.{valueIn, laterIn, older, phaseFrom, leftoverFrom, put, freeAt, placed, places, stateOf, restingIn, leftoverIn, isFree, placedIn, numberOf, refusalIn, calledIn, takenIn, limitsNow, acceptedIn, stepBy, stepIn, stepOf, numberIn, setpointIn, bandIn}
 use Rattle.mfrr.proofs.Rules.{passed}
 use Rattle.mfrr.proofs.Phases.{is-up, resting-from, value-from, limits-from, Begun, leftover-from, later-from}
 use Rattle.mfrr.proofs.Held.{held-all, held-from, put-from, older-from, holds}
@@ -162,3 +162,24 @@ when-refused h x n = go (refusal h x) n
         ≡ record { answer = Refused m; state = stateOf h }
     go zero k = absurd (k refl)
     go (suc m) k = refl
+
+-- ---- its answer in 01's figures
+
+pub number : (h : History) → Accepted h → (x : Second) → numberIn (stepIn (stateOf h) (length h) x .answer) ≡ refusal h x
+unfolding stepOf stepBy
+number h a x = rw (follows h a x) (go (refusal h x))
+  where
+    go :
+        (n : ℕ) →
+        numberIn (stepBy n (stateOf h) (record { answer = Given (kw (setpointAt h x)) (bandAt h x); state = stateOf (x ∷ h) }) .answer) ≡ n
+    go zero = refl
+    go (suc n) = refl
+
+module _ (h : History) (x : Second) (a : Accepted (x ∷ h)) where
+  pub setpoint : setpointIn (stepIn (stateOf h) (length h) x .answer) ≡ setpointAt h x
+  unfolding Accepted
+  setpoint = rw (follows h (a .1) x, when-accepted h x (a .0))
+
+  pub band : bandIn (stepIn (stateOf h) (length h) x .answer) ≡ bandAt h x
+  unfolding Accepted
+  band = rw (follows h (a .1) x, when-accepted h x (a .0))
