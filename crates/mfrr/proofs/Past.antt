@@ -1,7 +1,7 @@
 -- A step from the state after a past gives what the past gives. Assumes nothing.
-use mathlib.Core.Path.{_≡_, refl, sym, ap, _∙_}
+use mathlib.Core.Path.{_≡_, refl}
 use mathlib.Core.Bool.{Bool, true, false, cond}
-use mathlib.Core.List.{List, [], _∷_, map}
+use mathlib.Core.List.{[], _∷_, map}
 use Prim.Native.Nat.{ℕ, zero, suc, _+_, _-_, _≤_}
 use native.Mathlib.Numerals.{add-one}
 use native.Mathlib.Omega.{arith}
@@ -9,19 +9,16 @@ use lib.IntN.{ℤ}
 use lib.ListN.{length}
 use Rattle.power.specs.Units.{kw}
 use Rattle.mfrr.specs.declared.MfrrState.{MfrrState}
-use Rattle.mfrr.specs.declared.MfrrStep.{MfrrStep}
 use Rattle.mfrr.specs.declared.MfrrAnswer.the-variants.{Given, Refused}
 use Rattle.mfrr.specs.declared.signal.Phase.the-variants.{RampingUp}
 use Rattle.mfrr.specs.Signal.{quarterHour, Second, quiet, call, History, Signal, none, runs, Phase, signal, phaseAt, phaseNow, valueAt, setpointAt, isResting}
-use Rattle.mfrr.specs.Limits.{limitsOf}
-use Rattle.mfrr.specs.Leftovers.{leftoverOf, leftovers, counting}
+use Rattle.mfrr.specs.Leftovers.{leftoverOf, leftovers}
 use Rattle.mfrr.specs.Band.{limitsAt, bandAt}
 use Rattle.mfrr.specs.Refusals.{rulesAt, refusal, Accepted}
-use Rattle.mfrr.specs.State.{valueIn, laterIn, older, phaseFrom, leftoverFrom, put, freeAt, placed, places, stateOf, Ready, restingIn, leftoverIn, isFree, placedIn, held, numberOf, refusalIn, calledIn, takenIn, limitsNow, acceptedIn, stepBy, stepIn, stepOf}
+use Rattle.mfrr.specs.State.{valueIn, laterIn, older, phaseFrom, leftoverFrom, put, freeAt, placed, places, stateOf, restingIn, leftoverIn, isFree, placedIn, numberOf, refusalIn, calledIn, takenIn, limitsNow, acceptedIn, stepBy, stepIn, stepOf, numberIn, setpointIn, bandIn}
 use Rattle.mfrr.proofs.Rules.{passed}
 use Rattle.mfrr.proofs.Phases.{is-up, resting-from, value-from, limits-from, Begun, leftover-from, later-from}
 use Rattle.mfrr.proofs.Held.{held-all, held-from, put-from, older-from, holds}
-use Rattle.mfrr.proofs.Ready.{fresh, called-ready, next-ready}
 
 -- ---- every call of an accepted past has begun
 
@@ -165,3 +162,24 @@ when-refused h x n = go (refusal h x) n
         ≡ record { answer = Refused m; state = stateOf h }
     go zero k = absurd (k refl)
     go (suc m) k = refl
+
+-- ---- its answer in 01's figures
+
+pub number : (h : History) → Accepted h → (x : Second) → numberIn (stepIn (stateOf h) (length h) x .answer) ≡ refusal h x
+unfolding stepOf stepBy
+number h a x = rw (follows h a x) (go (refusal h x))
+  where
+    go :
+        (n : ℕ) →
+        numberIn (stepBy n (stateOf h) (record { answer = Given (kw (setpointAt h x)) (bandAt h x); state = stateOf (x ∷ h) }) .answer) ≡ n
+    go zero = refl
+    go (suc n) = refl
+
+module _ (h : History) (x : Second) (a : Accepted (x ∷ h)) where
+  pub setpoint : setpointIn (stepIn (stateOf h) (length h) x .answer) ≡ setpointAt h x
+  unfolding Accepted
+  setpoint = rw (follows h (a .1) x, when-accepted h x (a .0))
+
+  pub band : bandIn (stepIn (stateOf h) (length h) x .answer) ≡ bandAt h x
+  unfolding Accepted
+  band = rw (follows h (a .1) x, when-accepted h x (a .0))

@@ -26,7 +26,7 @@ use Rattle.mfrr.specs.Leftovers.{leftoverOf}
 use Rattle.mfrr.specs.Band.{spanned, bandAt}
 use Rattle.mfrr.specs.Leftovers as past-leftovers
 use Rattle.numbers.specs.Rules.{first}
-use Rattle.mfrr.specs.Refusals.{secondsMost, longestCall, leftoversMost, callRules, refusal}
+use Rattle.mfrr.specs.Refusals.{longestCall, leftoversMost, callRules, refusal}
 
 -- ---- what the state holds after a past
 
@@ -198,10 +198,18 @@ unfoldable pub secondOf : Bool → Kw → ℕ → Second
 secondOf true e D = call (e .0) D
 secondOf false e D = quiet
 
--- 01's number for an answer: 0 with setpoint and band, else that of the refusal
+-- 01's number, setpoint and band for each case of an answer: 0 with setpoint and band; a refusal's number, and 0 for the others
 abbrev pub numberIn : MfrrAnswer → ℕ
 numberIn (Given s b) = 0
 numberIn (Refused n) = n
+
+abbrev pub setpointIn : MfrrAnswer → ℤ
+setpointIn (Given s b) = s .0
+setpointIn (Refused n) = pos 0
+
+abbrev pub bandIn : MfrrAnswer → Band
+bandIn (Given s b) = b
+bandIn (Refused n) = record { low = kw (pos 0); high = kw (pos 0) }
 
 pub record GivenRange (s : Kw) (b : Band) : Type 0 where
   pub setpoint-range : Within powerMost (s .0)

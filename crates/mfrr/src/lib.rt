@@ -100,11 +100,12 @@ impl MfrrState {
         let phase = self.phase;
         let leftovers = self.leftovers;
         let start = phase.value();
+        let left = end - t;
         let next = Phase::RampingUp {
             start,
             target,
             since: 0,
-            left: end - t,
+            left,
         };
         if phase.is_resting() {
             return MfrrState {
