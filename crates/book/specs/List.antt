@@ -1,0 +1,29 @@
+-- A list of book seconds in one slice: for each its owner byte, a byte with the number of its bytes, and those bytes. A last one may be cut short.
+use Prim.Native.Nat.{ℕ, zero, suc}
+use mathlib.Core.Path.{_≡_}
+use mathlib.Core.List.{List, [], _∷_, _++_}
+use lib.ListN.{length, take, drop}
+use Rattle.book.specs.declared.Book.{Book}
+use Rattle.book.specs.Seconds.{BookSecond}
+use Rattle.book.specs.State.{fresh}
+use Rattle.book.specs.Run.{after}
+use Rattle.book.specs.Claim.{Claim}
+
+unfoldable pub split : ℕ → List ℕ → List BookSecond
+split zero s = []
+split (suc n) [] = []
+split (suc n) (o ∷ []) = record { owner = o; bytes = [] } ∷ []
+split (suc n) (o ∷ (k ∷ s)) = record { owner = o; bytes = take k s } ∷ split n (drop k s)
+
+unfoldable pub secondsIn : List ℕ → List BookSecond
+secondsIn s = split (length s) s
+
+-- every list of seconds, of up to 255 bytes each, is written so
+unfoldable pub written : List BookSecond → List ℕ
+written [] = []
+written (s ∷ ss) = s .owner ∷ (length (s .bytes) ∷ (s .bytes ++ written ss))
+
+-- what running the list gives: the book after it, of which the whole claim holds
+pub record Ran (ss : List BookSecond) (r : Book) : Type 0 where
+  pub is : r ≡ after fresh ss
+  pub claim : Claim ss

@@ -1,0 +1,103 @@
+-- A book second over the past: the rows of U, A and B, or the first refusal number that applies (01, "Book second").
+use Prim.Native.Nat.{ℕ, zero, suc}
+use mathlib.Core.Bool.{Bool, not, cond}
+use mathlib.Core.List.{List, [], _∷_}
+use lib.Dec.{ltb}
+use lib.IntN.{ℤ, pos, _+ℤ_}
+use lib.ListN.{length}
+use Rattle.numbers.specs.Rules.{refuse, first, differ, orElse}
+use Rattle.record.specs.declared.KindBits.{KindBits}
+use Rattle.record.specs.Record.{recordOf, bitsOf}
+use Rattle.row.specs.declared.KindRow.{KindRow}
+use Rattle.row.specs.declared.Row.{Row}
+use Rattle.plant.specs.Rows as plant
+use Rattle.book.specs.declared.BookAnswer.{BookAnswer}
+use Rattle.book.specs.declared.BookAnswer.the-variants.{Rows, Refused, RefusedBy}
+use Rattle.book.specs.declared.Plant.the-variants.{Unit, A, B}
+use Rattle.book.specs.Seconds.{BookSecond, History, bookSize, unitBytes, aBytes, bBytes, pastOf}
+
+-- ---- the unit's values
+
+-- the actual values at U of the kinds with their bit set
+abbrev pub valueIf : Bool → KindRow → ℤ
+valueIf sold k = cond sold (k .actual .0) (pos 0)
+
+unfoldable pub valuesOf : KindBits → Row → ℤ
+valuesOf b r = valueIf (b .fcr) (r .fcr) +ℤ (valueIf (b .afrr) (r .afrr) +ℤ valueIf (b .mfrr) (r .mfrr))
+
+abbrev pub others : KindBits → KindBits
+others b = record { fcr = not (b .fcr); afrr = not (b .afrr); mfrr = not (b .mfrr) }
+
+-- "An owner byte, bits as in status, says who sells each kind at U: 0 = A, 1 = B."
+abbrev pub soldByA : ℕ → KindBits
+soldByA o = others (bitsOf o)
+
+abbrev pub soldByB : ℕ → KindBits
+soldByB o = bitsOf o
+
+-- ---- the rows of second s after the past h
+
+unfoldable pub unitRowAt : History → BookSecond → Row
+unitRowAt h s = plant.rowAt (pastOf unitBytes h) (recordOf (unitBytes (s .bytes))) (pos 0) (pos 0)
+
+-- the unit's working point
+abbrev pub unitPoint : List ℕ → ℤ
+unitPoint s = recordOf (unitBytes s) .«working_point» .0
+
+-- "For sharing, the unit's working point is added to A's working point, and the unit's working point plus A's unit values to A's measured."
+unfoldable pub aRowAt : History → BookSecond → Row
+aRowAt h s =
+    plant.rowAt
+    (pastOf aBytes h)
+    (recordOf (aBytes (s .bytes)))
+    (unitPoint (s .bytes) +ℤ valuesOf (soldByA (s .owner)) (unitRowAt h s))
+    (unitPoint (s .bytes))
+
+-- "B likewise."
+unfoldable pub bRowAt : History → BookSecond → Row
+bRowAt h s =
+    plant.rowAt
+    (pastOf bBytes h)
+    (recordOf (bBytes (s .bytes)))
+    (unitPoint (s .bytes) +ℤ valuesOf (soldByB (s .owner)) (unitRowAt h s))
+    (unitPoint (s .bytes))
+
+-- ---- refusals
+
+-- "a book second not of 108, gets 12 before all else. The book second then gives 16 for an owner above 7; neither names a plant."
+unfoldable pub formNumber : BookSecond → ℕ
+formNumber s = first (refuse 12 (differ (length (s .bytes)) bookSize) ∷ refuse 16 (ltb 7 (s .owner)) ∷ [])
+
+-- "Next it checks U, A, B wholly in that order"
+abbrev pub unitNumber : History → BookSecond → ℕ
+unitNumber h s = plant.numberAt (pastOf unitBytes h) (unitBytes (s .bytes))
+
+abbrev pub aNumber : History → BookSecond → ℕ
+aNumber h s = plant.numberAt (pastOf aBytes h) (aBytes (s .bytes))
+
+abbrev pub bNumber : History → BookSecond → ℕ
+bNumber h s = plant.numberAt (pastOf bBytes h) (bBytes (s .bytes))
+
+-- the first number that applies, 0 where the second is accepted
+unfoldable pub numberAt : History → BookSecond → ℕ
+numberAt h s = orElse (formNumber s) (orElse (unitNumber h s) (orElse (aNumber h s) (bNumber h s)))
+
+-- "gives number and plant"
+abbrev pub answerBy : ℕ → ℕ → ℕ → ℕ → Row → Row → Row → BookAnswer
+answerBy (suc n) nu na nb u a b = Refused (suc n)
+answerBy zero (suc n) na nb u a b = RefusedBy Unit (suc n)
+answerBy zero zero (suc n) nb u a b = RefusedBy A (suc n)
+answerBy zero zero zero (suc n) u a b = RefusedBy B (suc n)
+answerBy zero zero zero zero u a b = Rows u a b
+
+unfoldable pub answerAt : History → BookSecond → BookAnswer
+answerAt h s =
+    answerBy (formNumber s) (unitNumber h s) (aNumber h s) (bNumber h s) (unitRowAt h s) (aRowAt h s) (bRowAt h s)
+
+-- the accepted seconds after this one: a refusal "changes none"
+abbrev pub grownBy : ℕ → BookSecond → History → History
+grownBy zero s h = s ∷ h
+grownBy (suc n) s h = h
+
+unfoldable pub grown : History → BookSecond → History
+grown h s = grownBy (numberAt h s) s h

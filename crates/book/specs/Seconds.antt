@@ -1,0 +1,40 @@
+-- The book second's bytes (01, "Book second"): U, A and B, 36 bytes each.
+use Prim.Native.Nat.{ℕ, _*_}
+use mathlib.Core.List.{List, map}
+use lib.IntN.{ℤ, _+ℤ_, _-ℤ_}
+use lib.ListN.{take, drop}
+use Rattle.record.specs.declared.Record.{Record}
+use Rattle.record.specs.Record.{size, recordOf}
+use Rattle.plant.specs.Seconds as plant
+
+-- "book seconds, each with any owner byte and any bytes"
+pub record BookSecond : Type 0 where
+  pub owner : ℕ
+  pub bytes : List ℕ
+
+-- the seconds accepted so far, newest first
+abbrev pub History : Type 0
+History = List BookSecond
+
+abbrev pub bookSize : ℕ
+bookSize = 3 * size
+
+abbrev pub unitBytes : List ℕ → List ℕ
+unitBytes s = take size s
+
+abbrev pub aBytes : List ℕ → List ℕ
+aBytes s = take size (drop size s)
+
+abbrev pub bBytes : List ℕ → List ℕ
+bBytes s = take size (drop (2 * size) s)
+
+-- a plant's own accepted seconds
+abbrev pub pastOf : (List ℕ → List ℕ) → History → plant.History
+pastOf part h = map (λ (s : BookSecond). recordOf (part (s .bytes))) h
+
+-- "measured - working point of U, A and B, each plant's record once"
+abbrev pub difference : Record → ℤ
+difference x = x .measured .0 -ℤ x .«working_point» .0
+
+unfoldable pub dueOf : List ℕ → ℤ
+dueOf s = difference (recordOf (unitBytes s)) +ℤ (difference (recordOf (aBytes s)) +ℤ difference (recordOf (bBytes s)))

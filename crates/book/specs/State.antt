@@ -1,0 +1,192 @@
+-- A book second from any book: the rules of specs/Rows.antt, on what the book holds.
+use Prim.Native.Nat.{ℕ, zero, suc, _+_, _*_, _≤_}
+use mathlib.Core.Path.{_≡_}
+use mathlib.Core.List.{List, []}
+use lib.IntN.{ℤ, pos, _+ℤ_}
+use Rattle.numbers.specs.Bounds.{Within}
+use Rattle.record.specs.declared.KindBits.{KindBits}
+use Rattle.record.specs.declared.Record.{Record}
+use Rattle.row.specs.declared.Row.{Row}
+use Rattle.row.specs.declared.sums.KwSeconds.{KwSeconds}
+use Rattle.row.specs.declared.sums.Sums.{Sums}
+use Rattle.row.specs.Row.{kindsOf, sumActuals}
+use Rattle.plant.specs.declared.PlantAnswer.{PlantAnswer}
+use Rattle.plant.specs.declared.PlantAnswer.the-variants as plant-answer
+use Rattle.plant.specs.declared.PlantStep.{PlantStep}
+use Rattle.plant.specs.Rows as plant-rows
+use Rattle.plant.specs.State as plant
+use Rattle.plant.specs.State.{mostAdded}
+use Rattle.plant.specs.Refusals.{mostPower}
+use Rattle.plant.specs.declared.PlantState.{PlantState}
+use Rattle.sharing.specs.Sizes.{SizedRow}
+use Rattle.book.specs.declared.Book.{Book}
+use Rattle.book.specs.declared.BookAnswer.{BookAnswer}
+use Rattle.book.specs.declared.BookAnswer.the-variants.{Rows, Refused, RefusedBy}
+use Rattle.book.specs.declared.BookStep.{BookStep}
+use Rattle.book.specs.declared.Plant.{Plant}
+use Rattle.book.specs.declared.Plant.the-variants.{Unit, A, B}
+use Rattle.book.specs.Seconds.{BookSecond, unitBytes, aBytes, bBytes, dueOf}
+use Rattle.book.specs.Rows.{valuesOf, soldByA, soldByB, unitPoint, formNumber}
+
+-- an owner byte and bytes as a book second
+abbrev pub secondOf : ℕ → List ℕ → BookSecond
+secondOf o s = record { owner = o; bytes = s }
+
+abbrev pub kwSeconds : ℤ → KwSeconds
+kwSeconds n = record { 0 = n }
+
+-- "a fresh book: no second accepted, all setpoints and limits 0, every signal resting, no leftover, the kept sums 0"
+unfoldable pub fresh : Book
+fresh =
+    record {
+      unit = plant-rows.stateOf [];
+      a = plant-rows.stateOf [];
+      b = plant-rows.stateOf [];
+      sums = record { a = kwSeconds (pos 0); b = kwSeconds (pos 0); «open» = kwSeconds (pos 0); due = kwSeconds (pos 0) };
+    }
+
+-- ---- what each plant answers
+
+unfoldable pub unitIn : Book → BookSecond → PlantStep
+unitIn k s = plant.stepIn (k .unit) (unitBytes (s .bytes)) (pos 0) (pos 0)
+
+-- where ru is the unit's row
+unfoldable pub aIn : Book → BookSecond → Row → PlantStep
+aIn k s ru =
+    plant.stepIn (k .a) (aBytes (s .bytes)) (unitPoint (s .bytes) +ℤ valuesOf (soldByA (s .owner)) ru) (unitPoint (s .bytes))
+
+unfoldable pub bIn : Book → BookSecond → Row → PlantStep
+bIn k s ru =
+    plant.stepIn (k .b) (bBytes (s .bytes)) (unitPoint (s .bytes) +ℤ valuesOf (soldByB (s .owner)) ru) (unitPoint (s .bytes))
+
+-- ---- the kept sums
+
+abbrev pub actualsOf : Row → ℤ
+actualsOf r = sumActuals (kindsOf r)
+
+abbrev pub openOf : Row → Row → Row → ℤ
+openOf u a b = u .«open» .0 +ℤ (a .«open» .0 +ℤ b .«open» .0)
+
+-- "A adds the actuals of all kinds in A's row, B those in B's row, open the open of every plant's row", and due d
+unfoldable pub sumsWith : Sums → Row → Row → Row → ℤ → Sums
+sumsWith q u a b d =
+    record {
+      a = kwSeconds (q .a .0 +ℤ actualsOf a);
+      b = kwSeconds (q .b .0 +ℤ actualsOf b);
+      «open» = kwSeconds (q .«open» .0 +ℤ openOf u a b);
+      due = kwSeconds (q .due .0 +ℤ d);
+    }
+
+-- ---- the step
+
+abbrev pub refusedBy : Book → Plant → ℕ → BookStep
+refusedBy k p n = record { answer = RefusedBy p n; book = k }
+
+-- what follows a plant's answer: a row goes on, a refusal leaves with its number
+abbrev pub onRow : PlantAnswer → (Row → BookStep) → (ℕ → BookStep) → BookStep
+onRow (plant-answer.Row r) f g = f r
+onRow (plant-answer.Refused n) f g = g n
+
+abbrev pub acceptedIn : Book → BookSecond → Row → Row → Row → BookStep
+acceptedIn k s u a b =
+    record {
+      answer = Rows u a b;
+      book =
+          record {
+            unit = unitIn k s .state;
+            a = aIn k s u .state;
+            b = bIn k s u .state;
+            sums = sumsWith (k .sums) u a b (dueOf (s .bytes));
+          };
+    }
+
+-- "The book second takes the unit first, then A, then B."
+unfoldable pub plantsIn : Book → BookSecond → BookStep
+plantsIn k s =
+    onRow (unitIn k s .answer)
+    (λ u.
+    onRow (aIn k s u .answer)
+    (λ a. onRow (bIn k s u .answer) (λ b. acceptedIn k s u a b) (refusedBy k B))
+    (refusedBy k A))
+    (refusedBy k Unit)
+
+abbrev pub stepBy : ℕ → Book → BookStep → BookStep
+stepBy zero k given = given
+stepBy (suc n) k given = record { answer = Refused (suc n); book = k }
+
+-- 01's number for an answer: 0 with rows; and the plant that it names
+abbrev pub numberIn : BookAnswer → ℕ
+numberIn (Rows u a b) = 0
+numberIn (Refused n) = n
+numberIn (RefusedBy p n) = n
+
+-- second s at the book k
+unfoldable pub stepIn : Book → BookSecond → BookStep
+stepIn k s = stepBy (formNumber s) k (plantsIn k s)
+
+-- ---- what a step asks of a book, and ensures
+
+-- the most that a second adds to a sum, in kW
+abbrev pub mostInSecond : ℕ
+mostInSecond = 400000000
+
+pub record SumsReady (n : ℕ) (q : Sums) : Type 0 where
+  pub a : Within (n * mostInSecond) (q .a .0)
+  pub b : Within (n * mostInSecond) (q .b .0)
+  pub «open» : Within (n * mostInSecond) (q .«open» .0)
+  pub due : Within (n * mostInSecond) (q .due .0)
+
+-- the unit's count is the book's
+pub record Ready (k : Book) : Type 0 where
+  pub unit : plant.Ready (k .unit)
+  pub a : plant.Ready (k .a)
+  pub b : plant.Ready (k .b)
+  pub sums : SumsReady (k .unit .seconds) (k .sums)
+
+pub record Stepped (k : Book) (s : BookSecond) (r : BookStep) : Type 0 where
+  pub is : r ≡ stepIn k s
+  pub ready : Ready (r .book)
+
+-- ---- what the other operations ask and answer
+
+-- measured - working point of an accepted second at the unit, and at a pool as shared
+abbrev pub mostAtUnit : ℕ
+mostAtUnit = 2 * mostPower
+
+abbrev pub mostAtPool : ℕ
+mostAtPool = mostPower + mostAdded + 2 * mostPower
+
+-- three actual values at the unit
+abbrev pub mostValues : ℕ
+mostValues = 36000000
+
+pub record ValuesAre (b : KindBits) (r : Row) (v : ℤ) : Type 0 where
+  pub is : v ≡ valuesOf b r
+  pub small : Within mostValues v
+
+pub record Pooled (pool : PlantState) (point values : ℤ) : Type 0 where
+  pub ready : plant.Ready pool
+  pub point-small : Within mostPower point
+  pub values-small : Within mostValues values
+
+-- the rows and what is due in an accepted second
+pub record Summed (u a b : Row) (d : ℤ) : Type 0 where
+  pub unit-sized : SizedRow mostAtUnit u
+  pub a-sized : SizedRow mostAtPool a
+  pub b-sized : SizedRow mostAtPool b
+  pub due-small : Within mostInSecond d
+
+-- the records of an accepted second
+pub record InRange (x : Record) : Type 0 where
+  pub measured : Within mostPower (x .measured .0)
+  pub working-point : Within mostPower (x .«working_point» .0)
+
+-- the plants' bytes, where s is the book second
+pub record PartsOf (s u a b : List ℕ) : Type 0 where
+  pub unit-part : u ≡ unitBytes s
+  pub a-part : a ≡ aBytes s
+  pub b-part : b ≡ bBytes s
+
+pub record PlantsStepped (k : Book) (o : ℕ) (u a b : List ℕ) (r : BookStep) : Type 0 where
+  pub is : (s : List ℕ) → PartsOf s u a b → r ≡ plantsIn k (secondOf o s)
+  pub ready : Ready (r .book)

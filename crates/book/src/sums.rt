@@ -1,0 +1,69 @@
+// The four sums of a book: A's and B's actual values, open, and due.
+use power::Kw;
+use record::Record;
+use row::Row;
+use row::Sums;
+ghost use mathlib.Core.Path.{_≡_};
+ghost use lib.IntN.{_+ℤ_};
+ghost use Rattle.numbers.specs.Bounds.{Within};
+ghost use Rattle.sharing.specs.Sizes.{SizedRow};
+ghost use Rattle.book.specs.Seconds.{difference};
+ghost use Rattle.book.specs.State.{mostAtUnit, mostAtPool, mostInSecond, actualsOf, openOf, sumsWith, InRange, SumsReady, Summed};
+
+// The actual values of all kinds in a pool's row.
+fn actuals_of(r: Row) -> Kw
+    requires { ⌜ SizedRow mostAtPool r ⌝ }
+    ensures { λ v. ⌜ (v .0 ≡ actualsOf r) × Within mostInSecond (v .0) ⌝ }
+{
+    let fcr = r.fcr.actual;
+    let afrr = r.afrr.actual;
+    let mfrr = r.mfrr.actual;
+    fcr.plus(afrr.plus(mfrr))
+}
+
+// The open of every plant's row.
+fn open_of(u: Row, a: Row, b: Row) -> Kw
+    requires { ⌜ SizedRow mostAtUnit u × SizedRow mostAtPool a × SizedRow mostAtPool b ⌝ }
+    ensures { λ v. ⌜ (v .0 ≡ openOf u a b) × Within mostInSecond (v .0) ⌝ }
+{
+    let unit = u.open;
+    let pool_a = a.open;
+    let pool_b = b.open;
+    unit.plus(pool_a.plus(pool_b))
+}
+
+// Measured - working point of a record.
+fn difference(x: Record) -> Kw
+    requires { ⌜ InRange x ⌝ }
+    ensures { λ v. ⌜ (v .0 ≡ difference x) × Within mostAtUnit (v .0) ⌝ }
+{
+    let measured = x.measured;
+    let working_point = x.working_point;
+    measured.minus(working_point)
+}
+
+// What is due in a second, from the three records.
+pub(crate) fn due_of(u: Record, a: Record, b: Record) -> Kw
+    requires { ⌜ InRange u × InRange a × InRange b ⌝ }
+    ensures { λ v. ⌜ (v .0 ≡ difference u +ℤ (difference a +ℤ difference b)) × Within mostInSecond (v .0) ⌝ }
+{
+    let pools = difference(a).plus(difference(b));
+    difference(u).plus(pools)
+}
+
+// The sums with a second more.
+pub(crate) fn with_second(sums: Sums, u: Row, a: Row, b: Row, due: Kw) -> Sums
+    requires { ⌜ SumsReady 90000 sums × Summed u a b (due .0) ⌝ }
+    ensures { λ r. ⌜ r ≡ sumsWith sums u a b (due .0) ⌝ }
+{
+    let sum_a = sums.a;
+    let sum_b = sums.b;
+    let sum_open = sums.open;
+    let sum_due = sums.due;
+    Sums {
+        a: sum_a.plus(actuals_of(a)),
+        b: sum_b.plus(actuals_of(b)),
+        open: sum_open.plus(open_of(u, a, b)),
+        due: sum_due.plus(due),
+    }
+}

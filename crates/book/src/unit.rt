@@ -1,0 +1,37 @@
+// Who sells what at the unit, and the values there.
+use power::Kw;
+use record::KindBits;
+use row::KindRow;
+use row::Row;
+ghost use mathlib.Core.Path.{_≡_};
+ghost use Rattle.book.specs.Rows.{valueIf, others};
+ghost use Rattle.sharing.specs.Sizes.{SizedRow};
+ghost use Rattle.book.specs.State.{mostAtUnit, ValuesAre};
+
+// The kinds whose bits are not set.
+pub(crate) fn others(b: KindBits) -> KindBits
+    ensures { λ r. ⌜ r ≡ others b ⌝ }
+{
+    KindBits {
+        fcr: !b.fcr,
+        afrr: !b.afrr,
+        mfrr: !b.mfrr,
+    }
+}
+
+fn value_if(sold: bool, k: KindRow) -> Kw
+    ensures { λ r. ⌜ r .0 ≡ valueIf sold k ⌝ }
+{
+    if sold { k.actual } else { Kw(0) }
+}
+
+// The actual values at the unit of the kinds whose bits are set.
+pub(crate) fn values_of(b: KindBits, r: Row) -> Kw
+    requires { ⌜ SizedRow mostAtUnit r ⌝ }
+    ensures { λ v. ⌜ ValuesAre b r (v .0) ⌝ }
+{
+    let fcr = value_if(b.fcr, r.fcr);
+    let afrr = value_if(b.afrr, r.afrr);
+    let mfrr = value_if(b.mfrr, r.mfrr);
+    fcr.plus(afrr.plus(mfrr))
+}
