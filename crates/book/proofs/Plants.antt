@@ -112,12 +112,11 @@ module _ (k : Book) (o : ℕ) (u a b : List ℕ) (ready : Ready k) (pu : PlantSt
 
         module _ {rb : Row} (erb : pb .answer ≡ plant-answer.Row rb) where
           pub ranges : InRange (recordOf u) × InRange (recordOf a) × InRange (recordOf b)
-          ranges =
-              (
-                given-range (k .unit) u (pos 0) (pos 0) pu eu ru eru,
-                given-range (k .a) a (point +ℤ va) point pa ea ra era,
-                given-range (k .b) b (point +ℤ vb) point pb eb rb erb,
-              )
+          ranges = (
+            given-range (k .unit) u (pos 0) (pos 0) pu eu ru eru,
+            given-range (k .a) a (point +ℤ va) point pa ea ra era,
+            given-range (k .b) b (point +ℤ vb) point pb eb rb erb,
+          )
 
           module _ (d : ℤ) (ed : d ≡ difference (recordOf u) +ℤ (difference (recordOf a) +ℤ difference (recordOf b))) where
             pub summed : Summed ru ra rb d

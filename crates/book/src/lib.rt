@@ -163,7 +163,13 @@ impl Book {
                 unit: next_unit,
                 a: next_a,
                 b: next_b,
-                sums: with_second(old_sums, unit_row, a_row, b_row, due_of(unit_record, a_record, b_record)),
+                sums: with_second(
+                    old_sums,
+                    unit_row,
+                    a_row,
+                    b_row,
+                    due_of(unit_record, a_record, b_record),
+                ),
             },
         }
     }

@@ -16,12 +16,12 @@ plus-requires : tie.Need-plus-requires
 plus-requires c κs = search fit
 
 second-with-requires : tie.Need-second-with-requires
-second-with-requires c κs = 
+second-with-requires c κs =
     let p = c .before .before .pre in
     (p .ready, record { measured = rw (c .plus .ensures) (more mostPower mostValues mostAdded _ _ (omega arith) (p .point-small) (p .values-small)); working-point = p .point-small })
 
 returns : tie.Need-returns
-returns c = 
+returns c =
     let g = c .before .before .before .args in
     subst (λ (m : ℤ). plant.Stepped (g .pool) (now (g .bytes)) m (g .point .0) (c .second-with .result)) (c .before .plus .ensures) (c .second-with .ensures)
 

@@ -18,18 +18,18 @@ new-requires-3 c κs = search needs
 returns : tie.Need-returns
 unfolding fresh
 returns c = (
-    λ i. record {
-      unit = c .before .before .new .ensures .0 i;
-      a = c .before .new2 .ensures .0 i;
-      b = c .new3 .ensures .0 i;
-      sums = record { a = kwSeconds (pos 0); b = kwSeconds (pos 0); «open» = kwSeconds (pos 0); due = kwSeconds (pos 0) };
-    },
-    record {
-      unit = c .before .before .new .ensures .1;
-      a = c .before .new2 .ensures .1;
-      b = c .new3 .ensures .1;
-      sums = sums-none _;
-    },
+  λ i. record {
+    unit = c .before .before .new .ensures .0 i;
+    a = c .before .new2 .ensures .0 i;
+    b = c .new3 .ensures .0 i;
+    sums = record { a = kwSeconds (pos 0); b = kwSeconds (pos 0); «open» = kwSeconds (pos 0); due = kwSeconds (pos 0) };
+  },
+  record {
+    unit = c .before .before .new .ensures .1;
+    a = c .before .new2 .ensures .1;
+    b = c .new3 .ensures .1;
+    sums = sums-none _;
+  },
 )
 
 pub new-spec : {M : Type 1} → statement M

@@ -62,7 +62,7 @@ refused-by-requires : tie.Need-refused-by-requires
 refused-by-requires c κs = search needs
 
 returns : tie.Need-returns
-returns c = 
+returns c =
     let p = c .before .before .before .before in
     let g = start p .args in
     rw (c .refused-by .ensures) (unit-refused (g .self) (g .owner) (now (g .unit)) (now (g .a)) (now (g .b)) (start p .pre .0) (p .second .result) (p .second .ensures) (c .before .before .enum-told .given .1) (c .before .number-in .ensures))
@@ -77,14 +77,14 @@ others-requires : tie.Need-others-requires
 others-requires c κs = search needs
 
 values-of-requires : tie.Need-values-of-requires
-values-of-requires c κs = 
+values-of-requires c κs =
     let f = c .before .before .before .before in
     let p = unit-at f in
     let g = start p .args in
     unit-sized (g .self) (g .owner) (now (g .unit)) (now (g .a)) (now (g .b)) (start p .pre .0) (p .second .result) (p .second .ensures) (f .before .before .unit-answer .given .1) (f .fields-of .result) (f .fields-of .ensures)
 
 pool-second-requires : tie.Need-pool-second-requires
-pool-second-requires c κs = 
+pool-second-requires c κs =
     let f = c .before .before .before .before .before in
     let p = unit-at f in
     let g = start p .args in
@@ -103,7 +103,7 @@ refused-by-requires-2 : tie.Need-refused-by-requires-2
 refused-by-requires-2 c κs = search needs
 
 returns-2 : tie.Need-returns-2
-returns-2 c = 
+returns-2 c =
     let q = c .before .before .before .before in
     let f = at-a q in
     let p = unit-at f in
@@ -111,14 +111,14 @@ returns-2 c =
     rw (c .refused-by2 .ensures) (a-refused (g .self) (g .owner) (now (g .unit)) (now (g .a)) (now (g .b)) (start p .pre .0) (p .second .result) (p .second .ensures) (f .before .before .unit-answer .given .1) (f .fields-of .result) (f .fields-of .ensures) (q .before .values-of .result .0) (a-values (q .before)) (q .pool-second .result) (q .pool-second .ensures) (c .before .before .enum-told2 .given .1) (c .before .number-in2 .ensures))
 
 values-of-requires-2 : tie.Need-values-of-requires-2
-values-of-requires-2 c κs = 
+values-of-requires-2 c κs =
     let f = at-a (c .before .before .before .before) in
     let p = unit-at f in
     let g = start p .args in
     unit-sized (g .self) (g .owner) (now (g .unit)) (now (g .a)) (now (g .b)) (start p .pre .0) (p .second .result) (p .second .ensures) (f .before .before .unit-answer .given .1) (f .fields-of .result) (f .fields-of .ensures)
 
 pool-second-requires-2 : tie.Need-pool-second-requires-2
-pool-second-requires-2 c κs = 
+pool-second-requires-2 c κs =
     let f = at-a (c .before .before .before .before .before) in
     let p = unit-at f in
     let g = start p .args in
@@ -137,7 +137,7 @@ refused-by-requires-3 : tie.Need-refused-by-requires-3
 refused-by-requires-3 c κs = search needs
 
 returns-3 : tie.Need-returns-3
-returns-3 c = 
+returns-3 c =
     let r = c .before .before .before .before in
     let q = at-b r in
     let f = at-a q in
@@ -146,17 +146,17 @@ returns-3 c =
     rw (c .refused-by3 .ensures) (b-refused (g .self) (g .owner) (now (g .unit)) (now (g .a)) (now (g .b)) (start p .pre .0) (p .second .result) (p .second .ensures) (f .before .before .unit-answer .given .1) (f .fields-of .result) (f .fields-of .ensures) (q .before .values-of .result .0) (a-values (q .before)) (q .pool-second .result) (q .pool-second .ensures) (r .before .before .before .before .a-answer .given .1) (r .before .values-of2 .result .0) (b-values (r .before)) (r .pool-second2 .result) (r .pool-second2 .ensures) (c .before .before .enum-told3 .given .1) (c .before .number-in3 .ensures))
 
 fields-of-requires-2 : tie.Need-fields-of-requires-2
-fields-of-requires-2 c κs = 
+fields-of-requires-2 c κs =
     let r = c .before .before .before in
     start (unit-at (at-a (at-b r))) .pre .2
 
 fields-of-requires-3 : tie.Need-fields-of-requires-3
-fields-of-requires-3 c κs = 
+fields-of-requires-3 c κs =
     let r = c .before .before .before .before in
     start (unit-at (at-a (at-b r))) .pre .3
 
 due-of-requires : tie.Need-due-of-requires
-due-of-requires c κs = 
+due-of-requires c κs =
     let e = c .before .before .before .before in
     let r = e .before .before .before .before .before in
     let q = at-b r in
@@ -175,7 +175,7 @@ due-eq d =
     ∙ (λ i. difference (f .fields-of .ensures i) +ℤ (difference (e .before .fields-of2 .ensures i) +ℤ difference (e .fields-of3 .ensures i)))
 
 with-second-requires : tie.Need-with-second-requires
-with-second-requires c κs = 
+with-second-requires c κs =
     let d = c in
     let e = d .before .before .before .before .before in
     let r = e .before .before .before .before .before in
@@ -186,7 +186,7 @@ with-second-requires c κs =
     (sums-ready (g .self) (g .owner) (now (g .unit)) (now (g .a)) (now (g .b)) (start p .pre .0) (p .second .result) (p .second .ensures) (f .before .before .unit-answer .given .1) (f .fields-of .result) (f .fields-of .ensures) (q .before .values-of .result .0) (a-values (q .before)) (q .pool-second .result) (q .pool-second .ensures) (r .before .before .before .before .a-answer .given .1) (r .before .values-of2 .result .0) (b-values (r .before)) (r .pool-second2 .result) (r .pool-second2 .ensures) (e .before .before .before .b-answer .given .1) (d .due-of .result .0) (due-eq d), summed (g .self) (g .owner) (now (g .unit)) (now (g .a)) (now (g .b)) (start p .pre .0) (p .second .result) (p .second .ensures) (f .before .before .unit-answer .given .1) (f .fields-of .result) (f .fields-of .ensures) (q .before .values-of .result .0) (a-values (q .before)) (q .pool-second .result) (q .pool-second .ensures) (r .before .before .before .before .a-answer .given .1) (r .before .values-of2 .result .0) (b-values (r .before)) (r .pool-second2 .result) (r .pool-second2 .ensures) (e .before .before .before .b-answer .given .1) (d .due-of .result .0) (due-eq d))
 
 returns-4 : tie.Need-returns-4
-returns-4 c = 
+returns-4 c =
     let d = c .before in
     let e = d .before .before .before .before .before in
     let r = e .before .before .before .before .before in

@@ -1,58 +1,76 @@
+-- `book::Book::second` meets its contract. Assumes nothing.
+use mathlib.Core.Path.{_≡_, refl, sym, ap, _∙_}
+use mathlib.Core.List.{List}
+use Prim.Native.Nat.{ℕ, _-_}
+use native.Mathlib.Omega.{arith}
+use denote.Ref.{now}
+use lib.ListN.{length}
+use Rattle.book.proofs.Form.{whole, unit-length, a-length, b-length, to-the-end, refused, stepped}
 use borrow.Author.Needs.{needs}
 use Rattle.book.proofs.Book.second.Statement.{statement}
 use Rattle.book.proofs.Book.second.Tie as tie
-use Rattle.book.proofs.Book.second.Reads as reads
-use Rattle.book.proofs.Book.second.Lts as lts
-use Rattle.book.proofs.Book.plants.Reads as plants-reads
-use Rattle.book.proofs.form_number.Reads as form-number-reads
 
--- src/lib.rt:103:13
+-- where no number applies there are 108 bytes
+abbrev bytes : tie.Else1 → List ℕ
+bytes i = now (i .before .before .before .args .bytes)
+
+long : (i : tie.Else1) → length (bytes i) ≡ 108
+long i = whole _ _ (sym (i .before .form-number .ensures) ∙ i .if1 .left)
+
 form-number-requires : tie.Need-form-number-requires
 form-number-requires c κs = search needs
 
--- src/lib.rt:105:13
 returns : tie.Need-returns
-returns c = ?
+returns c = refused _ _ _ (c .before .form-number .ensures) (c .if1 .taken) (c .before .before .before .pre)
 
--- src/lib.rt:111:20
 mul-b-at : tie.Need-mul-b-at
 mul-b-at c = search needs
 
--- src/lib.rt:112:28
 slice-aggregate-plants : tie.Need-slice-aggregate-plants
-slice-aggregate-plants c = ?
+slice-aggregate-plants c =
+    let i = c .before in
+    let l = long i in
+    sym (unit-length (bytes i) l)
 
--- src/lib.rt:112:44
 sub-plants : tie.Need-sub-plants
 sub-plants c = search needs
 
--- src/lib.rt:112:44
 part-plants-start : tie.Need-part-plants-start
 part-plants-start c = search needs
 
--- src/lib.rt:112:44
 part-plants-end : tie.Need-part-plants-end
-part-plants-end c = ?
+part-plants-end c =
+    let i = c .before in
+    let l = long i in
+    search needs
 
--- src/lib.rt:112:64
 sub-plants-2 : tie.Need-sub-plants-2
-sub-plants-2 c = ?
+sub-plants-2 c =
+    let i = c .before .before in
+    let l = long i in
+    omega arith
 
--- src/lib.rt:112:64
 part-plants-start-2 : tie.Need-part-plants-start-2
-part-plants-start-2 c = ?
+part-plants-start-2 c =
+    let i = c .before .before in
+    let l = long i in
+    search needs
 
--- src/lib.rt:112:64
 part-plants-end-2 : tie.Need-part-plants-end-2
 part-plants-end-2 c = search needs
 
--- src/lib.rt:112:9
 plants-requires : tie.Need-plants-requires
-plants-requires c κs = ?
+plants-requires c κs =
+    let i = c .before .before .before in
+    let l = long i in
+    (i .before .before .before .pre, unit-length (bytes i) l, a-length (bytes i) l, ap length (to-the-end (bytes i) l (length (bytes i) - 72) (omega arith)) ∙ b-length (bytes i) l)
 
--- src/lib.rt:99:5
 returns-2 : tie.Need-returns-2
-returns-2 c = ?
+returns-2 c =
+    let i = c .before .before .before .before in
+    let l = long i in
+    stepped _ _ _ (c .plants .result) (sym (i .before .form-number .ensures) ∙ i .if1 .left)
+    (record { unit-part = refl; a-part = refl; b-part = to-the-end (bytes i) l (length (bytes i) - 72) (omega arith) }) (c .plants .ensures)
 
 pub second-spec : {M : Type 1} → statement M
 second-spec =

@@ -9,7 +9,7 @@ sum-of-requires : tie.Need-sum-of-requires
 sum-of-requires c κs = search needs
 
 returns : tie.Need-returns
-returns c = 
+returns c =
     let r = c .before .args .r in
     c .sum-of .ensures ∙ ap (λ (z : ℤ). r .fcr .actual .0 +ℤ (r .afrr .actual .0 +ℤ z)) (sym (+ℤ-idr (r .mfrr .actual .0)))
 

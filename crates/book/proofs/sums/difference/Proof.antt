@@ -11,7 +11,7 @@ minus-requires : tie.Need-minus-requires
 minus-requires c κs = search fit
 
 returns : tie.Need-returns
-returns c = 
+returns c =
     let p = c .before .before .before .pre in
     (c .minus .ensures, rw (c .minus .ensures) (less mostPower mostPower mostAtUnit _ _ (omega arith) (p .measured) (p .working-point)))
 

@@ -18,7 +18,7 @@ sum-of-requires : tie.Need-sum-of-requires
 sum-of-requires c κs = search needs
 
 returns : tie.Need-returns
-returns c = 
+returns c =
     c .sum-of .ensures
     ∙ (λ i. c .before .before .before .difference .ensures .0 i +ℤ (c .before .before .difference2 .ensures .0 i +ℤ c .before .difference3 .ensures .0 i))
 

@@ -10,12 +10,12 @@ plus-requires : tie.Need-plus-requires
 plus-requires c κs = search fit
 
 plus-requires-2 : tie.Need-plus-requires-2
-plus-requires-2 c κs = 
+plus-requires-2 c κs =
     let p = c .before .pre in
     rw (c .plus .ensures) (three-fit _ _ _ (p .0) (p .1) (p .2))
 
 returns : tie.Need-returns
-returns c = 
+returns c =
     let g = c .before .before .args in
     c .plus2 .ensures ∙ ap (λ (z : ℤ). g .x .0 +ℤ z) (c .before .plus .ensures)
 

@@ -19,11 +19,10 @@ value-if-requires-3 : tie.Need-value-if-requires-3
 value-if-requires-3 c κs = search needs
 
 sum-of-requires : tie.Need-sum-of-requires
-sum-of-requires c κs = 
+sum-of-requires c κs =
     let s = c .before .before .before in
     let b = s .args .b in
-    let r = s .args .r in
-    (
+    let r = s .args .r in (
       rw (c .before .before .value-if .ensures) (within-le mostActual mostSummand _ (fcr-value b r (s .pre)) tt),
       rw (c .before .value-if2 .ensures) (within-le mostActual mostSummand _ (afrr-value b r (s .pre)) tt),
       rw (c .value-if3 .ensures) (within-le mostActual mostSummand _ (mfrr-value b r (s .pre)) tt),
@@ -31,7 +30,7 @@ sum-of-requires c κs =
 
 returns : tie.Need-returns
 unfolding valuesOf
-returns c = 
+returns c =
     c .sum-of .ensures
     ∙ (λ i. c .before .before .before .value-if .ensures i +ℤ (c .before .before .value-if2 .ensures i +ℤ c .before .value-if3 .ensures i))
 
