@@ -4,3 +4,4 @@ pub mod Form
 pub mod Past
 pub mod Balance
 pub mod Claim
+pub mod Listed

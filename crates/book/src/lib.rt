@@ -1,7 +1,9 @@
 // The book second (01, "Book second"): the unit first, then A, then B; and a whole lent list of book seconds.
+mod list;
 mod sums;
 mod unit;
 
+pub use list::run;
 use plant::PlantAnswer;
 use plant::PlantState;
 use plant::PlantStep;
