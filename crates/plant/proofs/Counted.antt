@@ -18,7 +18,7 @@ use Rattle.plant.specs.declared.PlantState.{PlantState}
 use Rattle.plant.specs.declared.PlantStep.{PlantStep}
 use Rattle.plant.specs.Refusals.{recordNumber}
 use Rattle.plant.specs.Rows.{offNumber}
-use Rattle.plant.specs.State.{kindsIn, mfrrStepIn, grownIn, refusedIn, acceptedIn, stepBy, kindsStepIn, mfrrKind, givenIn, calledIn, recordStepIn, readIn, stepIn}
+use Rattle.plant.specs.State.{kindsIn, mfrrStepIn, grownIn, refusedIn, acceptedIn, stepBy, kindsStepIn, mfrrKind, givenIn, callStepIn, recordStepIn, readIn, stepIn}
 
 -- what a step that gives a row does to the count
 abbrev Counts : PlantState → PlantStep → Type 0
@@ -41,8 +41,8 @@ module _ (st : PlantState) (x : Record) (m w : ℤ) where
   with-answer (mfrr-answer.Refused n) next = never st n
 
   of-record : Counts st (recordStepIn st x m w)
-  unfolding recordStepIn calledIn
-  of-record = by-number (recordNumber (st .seconds) x) st (calledIn st x m w) (with-answer (mfrrStepIn st x .answer) (mfrrStepIn st x .state))
+  unfolding recordStepIn callStepIn
+  of-record = by-number (recordNumber (st .seconds) x) st (callStepIn st x m w) (with-answer (mfrrStepIn st x .answer) (mfrrStepIn st x .state))
 
 of-reading : (r : Reading) (st : PlantState) (m w : ℤ) → Counts st (readIn r st m w)
 of-reading (reading.Fields x) st m w = of-record st x m w
