@@ -45,7 +45,6 @@ pub enum Input {
     MiddleBlockCut,
     LastBlockCut,
     LastBlockMissing,
-    OneByteShort,
     OneByteMore,
     OneBlockMore,
 }
@@ -57,12 +56,13 @@ pub enum Header {
     ByteUnderCheck,
     FirstBytes,
     Version,
-    Owner,
+    /// Owner 8 and no block after the header.
+    OwnerAndNoBlock,
     NoSeconds,
     OneSecondTooMany,
-    AnySecondsTooMany,
-    SpareSeven,
-    SpareLater,
+    /// One of the spare bytes 7 and 12 to 507.
+    Spare(usize),
+    AnySpare,
     /// A number from 13 to 17 and the next one.
     WithNext(u8),
     /// A header whose seconds are not those of the blocks.
@@ -119,7 +119,6 @@ pub fn cases() -> Vec<Fault> {
         Fault::Input(Input::MiddleBlockCut),
         Fault::Input(Input::LastBlockCut),
         Fault::Input(Input::LastBlockMissing),
-        Fault::Input(Input::OneByteShort),
         Fault::Input(Input::OneByteMore),
         Fault::Input(Input::OneBlockMore),
         Fault::Header(Header::CutAndCheck),
@@ -127,12 +126,13 @@ pub fn cases() -> Vec<Fault> {
         Fault::Header(Header::ByteUnderCheck),
         Fault::Header(Header::FirstBytes),
         Fault::Header(Header::Version),
-        Fault::Header(Header::Owner),
+        Fault::Header(Header::OwnerAndNoBlock),
         Fault::Header(Header::NoSeconds),
         Fault::Header(Header::OneSecondTooMany),
-        Fault::Header(Header::AnySecondsTooMany),
-        Fault::Header(Header::SpareSeven),
-        Fault::Header(Header::SpareLater),
+        Fault::Header(Header::Spare(7)),
+        Fault::Header(Header::Spare(12)),
+        Fault::Header(Header::Spare(507)),
+        Fault::Header(Header::AnySpare),
         Fault::Header(Header::Says(1)),
         Fault::Header(Header::Says(4)),
         Fault::Header(Header::Says(-1)),
@@ -167,15 +167,14 @@ pub fn cases() -> Vec<Fault> {
 }
 
 /// The book of the case that is in turn.
-pub fn make(turn: u64, random: &mut Random) -> Made {
+pub fn make(turn: u64, owner: u8, random: &mut Random) -> Made {
     let cases = cases();
     let fault = cases[(turn % cases.len() as u64) as usize];
-    let owner = random.within(0, 7) as u8;
     match fault {
         Fault::Plant(number, plant, place) => {
             let mut seconds = base(owner, full_if(number == 10, plant), random);
             let at = second_of(place, number, seconds.len(), random);
-            spoil(&mut seconds[at][plant], number, at, random);
+            spoil(&mut seconds[at][plant], number, 3 * place as usize + plant, at, random);
             let name = format!("broken, {} in {} at the {:?} second", number, PLANTS[plant], place);
             made(name, book_blocks(owner, &seconds).concat(), number, at)
         }
@@ -188,8 +187,9 @@ pub fn make(turn: u64, random: &mut Random) -> Made {
             let mut seconds = base(owner, full_if(next == 10 || first == 10, plant), random);
             let place = random.pick(&PLACES);
             let at = second_of(place, if next == 10 { 10 } else { first }, seconds.len(), random);
-            spoil(&mut seconds[at][plant], next, at, random);
-            spoil(&mut seconds[at][plant], first, at, random);
+            let (one, other) = (random.index(9), random.index(9));
+            spoil(&mut seconds[at][plant], next, other, at, random);
+            spoil(&mut seconds[at][plant], first, one, at, random);
             let name = format!("broken, {} and {} in {} at the {:?} second", first, next, PLANTS[plant], place);
             made(name, book_blocks(owner, &seconds).concat(), first, at)
         }
@@ -199,16 +199,18 @@ pub fn make(turn: u64, random: &mut Random) -> Made {
             let larger = random.pick(&[9, 11, between]) as u8;
             let mut seconds = base(owner, None, random);
             let at = random.index(seconds.len());
-            spoil(&mut seconds[at][earlier], larger, at, random);
-            spoil(&mut seconds[at][later], smaller as u8, at, random);
+            let (one, other) = (random.index(9), random.index(9));
+            spoil(&mut seconds[at][earlier], larger, one, at, random);
+            spoil(&mut seconds[at][later], smaller as u8, other, at, random);
             let name = format!("broken, {} in {}, {} in {}", larger, PLANTS[earlier], smaller, PLANTS[later]);
             made(name, book_blocks(owner, &seconds).concat(), larger, at)
         }
         Fault::TwoSeconds => {
             let mut seconds = base(owner, None, random);
             let at = random.index(seconds.len() - 1);
-            spoil(&mut seconds[at][2], 11, at, random);
-            spoil(&mut seconds[at + 1][0], 2, at + 1, random);
+            let (one, other) = (random.index(9), random.index(9));
+            spoil(&mut seconds[at][2], 11, one, at, random);
+            spoil(&mut seconds[at + 1][0], 2, other, at + 1, random);
             made("broken, 11 in B, 2 in U a second later".to_string(), book_blocks(owner, &seconds).concat(), 11, at)
         }
         Fault::Input(input) => of_input(input, owner, random),
@@ -263,71 +265,58 @@ fn second_of(place: Place, number: u8, count: usize, random: &mut Random) -> usi
     }
 }
 
-/// Gives a sound record of second `now` the fault that has this number.
-fn spoil(record: &mut Record, number: u8, now: usize, random: &mut Random) {
+/// Gives a sound record of second `now` the fault that has this number, in one of nine ways.
+fn spoil(record: &mut Record, number: u8, way: usize, now: usize, random: &mut Random) {
     let now = now as i64;
     match number {
         2 => {
-            let held = random.pick(&[-1, 1_000_001, i32::MIN, i32::MAX]);
-            match random.index(3) {
+            let held = [-1, 1_000_001, i32::MIN][way / 3];
+            match way % 3 {
                 0 => record.fcr_held = held,
                 1 => record.afrr_held_up = held,
                 _ => record.afrr_held_down = held,
             }
         }
-        3 => record.deviation = random.pick(&[5_001, -5_001, i16::MAX, i16::MIN]),
+        3 => record.deviation = [5_001, -5_001, i16::MAX, i16::MIN][way % 4],
         4 => {
-            let power = random.pick(&[4_000_001, -4_000_001, i32::MAX, i32::MIN]);
-            if random.once_in(2) {
+            let power = [4_000_001, -4_000_001, i32::MAX, i32::MIN][way / 2 % 4];
+            if way % 2 == 0 {
                 record.measured = power;
             } else {
                 record.working_point = power;
             }
         }
-        5 => record.afrr_setpoint = random.pick(&[1_000_001, -1_000_001, i32::MAX, i32::MIN]),
-        6 => record.status = random.pick(&[8, 9, 15, 16, 128, 255]),
-        7 => match random.index(4) {
-            0 => record.call = random.pick(&[2, 3, 128, 255]),
-            1 => {
-                record.call = 0;
-                record.mfrr_target = random.pick(&[1, -1, 1_000_000, 2_000_000]);
-            }
-            _ => {
-                record.call = 0;
-                record.delivery_end = random.pick(&[1, 900, 3_600, u32::MAX]);
-            }
-        },
+        5 => record.afrr_setpoint = [1_000_001, -1_000_001, i32::MAX, i32::MIN][way % 4],
+        6 => record.status = [8, 9, 15, 16, 128, 255][way % 6],
+        7 => {
+            (record.call, record.mfrr_target, record.delivery_end) = [
+                (2, 0, 0),
+                (0, 1, 0),
+                (0, 0, 900),
+                (0, -1, 0),
+                (0, 0, 1),
+                (255, record.mfrr_target, record.delivery_end),
+                (0, 1_000, 1_800),
+                (0, 0, u32::MAX),
+                (2, 1_000, 1_800),
+            ][way];
+        }
         8 => {
             call(record, now, random);
-            record.mfrr_target = random.pick(&[1_000_001, -1_000_001, i32::MAX, i32::MIN]);
+            record.mfrr_target = [1_000_001, -1_000_001, i32::MAX, i32::MIN][way % 4];
         }
         9 => {
             call(record, now, random);
-            let below = (now + 899) / 900 * 900;
-            let above = ((now + 3_600) / 900 + 1) * 900;
             let sound = record.delivery_end;
-            record.delivery_end = random.pick(&[
-                0,
-                1,
-                sound - 1,
-                sound + 1,
-                sound + 450,
-                now as u32 + 901,
-                below as u32,
-                below as u32,
-                above as u32,
-                above as u32,
-                4_294_966_500,
-                u32::MAX,
-            ]);
-            if record.delivery_end % 900 == 0 && (now + 900..=now + 3_600).contains(&(record.delivery_end as i64)) {
-                record.delivery_end += 1;
-            }
+            let below = ((now + 899) / 900 * 900) as u32;
+            let above = (((now + 3_600) / 900 + 1) * 900) as u32;
+            record.delivery_end = [sound - 1, sound + 1, above, below, above, 0, below, 4_294_966_500, u32::MAX][way];
         }
         10 => call(record, now, random),
         11 => {
             // a running call has a setpoint from second 1 on
-            match random.index(if now > 0 { 4 } else { 2 }) {
+            let kind = [0, 1, 0, 2, 3, 0, 1, 2, 3][if now == 0 { way % 3 } else { way }];
+            match kind {
                 0 => {
                     record.fcr_held = random.pick(&[2, 400, 1_000_000]);
                     record.deviation = random.pick(&[100, -100, 200, -5_000]);
@@ -361,15 +350,9 @@ fn call(record: &mut Record, now: i64, random: &mut Random) {
 }
 
 fn of_input(input: Input, owner: u8, random: &mut Random) -> Made {
-    let mut count_to_four = base(owner, None, random);
-    if let Input::OneByteShort | Input::LastBlockCut = input {
-        // sometimes a full last block
-        while random.once_in(2) && count_to_four.len() % 4 != 0 {
-            count_to_four.pop();
-        }
-    }
-    let count = count_to_four.len();
-    let mut bytes = book_blocks(owner, &count_to_four).concat();
+    let seconds = base(owner, None, random);
+    let count = seconds.len();
+    let mut bytes = book_blocks(owner, &seconds).concat();
     let blocks = bytes.len() / LENGTH - 1;
     let inside = random.within(1, 511) as usize;
     let middle = random.within(2, blocks as i64 - 1) as usize;
@@ -379,9 +362,8 @@ fn of_input(input: Input, owner: u8, random: &mut Random) -> Made {
         Input::HeaderOnly => (LENGTH, 12, 0),
         Input::FirstBlockCut => (LENGTH + random.pick(&[1, 511, inside]), 12, 0),
         Input::MiddleBlockCut => (middle * LENGTH + inside, 12, 4 * (middle - 1)),
-        Input::LastBlockCut => (blocks * LENGTH + inside, 12, 4 * (blocks - 1)),
+        Input::LastBlockCut => (blocks * LENGTH + 511, 12, 4 * (blocks - 1)),
         Input::LastBlockMissing => (blocks * LENGTH, 12, 4 * (blocks - 1)),
-        Input::OneByteShort => (bytes.len() - 1, 12, 4 * (blocks - 1)),
         Input::OneByteMore => (bytes.len() + 1, 21, count),
         Input::OneBlockMore => (bytes.len() + LENGTH, 21, count),
     };
@@ -394,9 +376,9 @@ fn of_input(input: Input, owner: u8, random: &mut Random) -> Made {
 fn spoil_header(header: &mut [u8], number: u8, random: &mut Random) {
     match number {
         14 => header[random.index(4)] ^= 1 << random.index(8),
-        15 => header[4 + random.index(2)] ^= 1 << random.index(8),
+        15 => header[4] = random.pick(&[0, 2, 3, 255]),
         16 => header[6] = random.pick(&[8, 9, 16, 128, 255]),
-        17 => header[8..12].copy_from_slice(&random.pick(&[0u32, 90_001, 1 << 31]).to_le_bytes()),
+        17 => header[8..12].copy_from_slice(&random.pick(&[0, 90_002, 1 << 31, u32::MAX]).to_le_bytes()),
         18 => {
             let between = random.within(13, 506) as usize;
             header[random.pick(&[7, 12, 507, between])] = random.within(1, 255) as u8;
@@ -435,15 +417,18 @@ fn of_header(fault: Header, owner: u8, random: &mut Random) -> Made {
             13
         }
         Header::FirstBytes => {
-            spoil_header(header, 14, random);
+            header[3] = b'V';
+            seal(header);
             14
         }
         Header::Version => {
-            spoil_header(header, 15, random);
+            header[5] = 1;
+            seal(header);
             15
         }
-        Header::Owner => {
-            spoil_header(header, 16, random);
+        Header::OwnerAndNoBlock => {
+            header[6] = 8;
+            seal(header);
             16
         }
         Header::NoSeconds => {
@@ -454,16 +439,12 @@ fn of_header(fault: Header, owner: u8, random: &mut Random) -> Made {
             set_seconds(header, 90_001);
             17
         }
-        Header::AnySecondsTooMany => {
-            set_seconds(header, random.within(90_002, u32::MAX as i64) as u32);
-            17
-        }
-        Header::SpareSeven => {
-            header[7] = random.within(1, 255) as u8;
+        Header::Spare(at) => {
+            header[at] = random.within(1, 255) as u8;
             seal(header);
             18
         }
-        Header::SpareLater => {
+        Header::AnySpare => {
             spoil_header(header, 18, random);
             18
         }
@@ -494,42 +475,40 @@ fn of_header(fault: Header, owner: u8, random: &mut Random) -> Made {
         }
     };
     let mut bytes = blocks.concat();
-    if let Header::CutAndCheck = fault {
-        bytes.truncate(random.within(1, 511) as usize);
+    match fault {
+        Header::CutAndCheck => bytes.truncate(random.within(1, 511) as usize),
+        Header::OwnerAndNoBlock => bytes.truncate(LENGTH),
+        _ => {}
     }
     let (number, at) = expected.unwrap_or((number, 0));
     made(format!("broken, header, {:?}", fault), bytes, number, at as usize)
 }
 
-/// One end, the other, or any.
-fn in_range(first: usize, last: usize, random: &mut Random) -> usize {
-    let any = random.within(first as i64, last as i64) as usize;
-    random.pick(&[first, last, any])
-}
-
-/// Gives block `number` (from 1) the fault; the check is renewed but where it is the fault.
-fn spoil_block(block: &mut [u8], number: usize, fault: Block, random: &mut Random) {
-    let count = block[4] as usize;
-    let other_number = random.pick(&[number as u32 - 1, number as u32 + 1, 0, u32::MAX, number as u32 + 256]);
-    let other_count = loop {
-        let other = random.pick(&[0, 1, 2, 3, 4, 5, 255]);
-        if other != count as u8 {
-            break other;
-        }
+/// Gives block `number` (from 1) the fault, another one at each place; the check is renewed but where it is the fault.
+fn spoil_block(block: &mut [u8], number: usize, fault: Block, place: Place, random: &mut Random) {
+    let count = block[4];
+    let number = number as u32;
+    let by_place = |first: usize, middle: i64, last: usize| match place {
+        Place::First => first,
+        Place::Middle => middle as usize,
+        Place::Last => last,
     };
     let spare = random.within(1, 255) as u8;
     match fault {
         Block::Check | Block::CutAndCheck => block[508 + random.index(4)] ^= 1 << random.index(8),
-        Block::SpareBeforeSeconds => block[in_range(5, 15, random)] = spare,
-        Block::SpareAfterSeconds => block[in_range(448, 507, random)] = spare,
-        Block::UnusedSecond => block[in_range(16 + 108 * count, 447, random)] = spare,
+        Block::SpareBeforeSeconds => block[by_place(5, random.within(5, 15), 15)] = spare,
+        Block::SpareAfterSeconds => block[by_place(448, random.within(448, 507), 507)] = spare,
+        Block::UnusedSecond => block[16 + 108 * count as usize] = spare,
         Block::Number | Block::CheckAndNumber | Block::NumberAndCount => {
-            block[0..4].copy_from_slice(&other_number.to_le_bytes());
+            let other = by_place(number as usize + 1, number as i64 - 1, number as usize + (1 << 24));
+            block[0..4].copy_from_slice(&(other as u32).to_le_bytes());
         }
-        Block::Count | Block::CountAndSpare => block[4] = other_count,
+        Block::Count | Block::CountAndSpare => {
+            block[4] = by_place(3, 5, if count < 4 { count as usize + 1 } else { 0 }) as u8;
+        }
     }
     match fault {
-        Block::NumberAndCount => block[4] = other_count,
+        Block::NumberAndCount => block[4] = count ^ 1,
         Block::CountAndSpare => block[5 + random.index(11)] = spare,
         _ => {}
     }
@@ -556,7 +535,7 @@ fn of_block(fault: Block, place: Place, owner: u8, random: &mut Random) -> Made 
         Place::Middle => random.within(2, last as i64 - 1) as usize,
         Place::Last => last,
     };
-    spoil_block(&mut blocks[number], number, fault, random);
+    spoil_block(&mut blocks[number], number, fault, place, random);
     let mut bytes = blocks.concat();
     let refusal = match fault {
         Block::CutAndCheck => {
@@ -584,19 +563,19 @@ fn of_mixed(mixed: Mixed, owner: u8, random: &mut Random) -> Made {
     };
     let refusal = random.pick(&[2, 3, 4, 5, 6, 7, 8, 9, 11]);
     if !matches!(mixed, Mixed::CheckThenMore) {
-        let plant = random.index(3);
-        spoil(&mut seconds[at][plant], refusal, at, random);
+        let (plant, way) = (random.index(3), random.index(9));
+        spoil(&mut seconds[at][plant], refusal, way, at, random);
     }
     let mut blocks = book_blocks(owner, &seconds);
     let last = blocks.len() - 1;
     let name = format!("broken, {:?}", mixed);
     match mixed {
         Mixed::SpareAndPlant => {
-            spoil_block(&mut blocks[number], number, Block::SpareBeforeSeconds, random);
+            spoil_block(&mut blocks[number], number, Block::SpareBeforeSeconds, Place::Middle, random);
             made(name, blocks.concat(), 18, first)
         }
         Mixed::PlantThenBlock => {
-            spoil_block(&mut blocks[number + 1], number + 1, Block::Check, random);
+            spoil_block(&mut blocks[number + 1], number + 1, Block::Check, Place::Middle, random);
             made(name, blocks.concat(), refusal, at)
         }
         Mixed::PlantThenCut => {
@@ -609,7 +588,7 @@ fn of_mixed(mixed: Mixed, owner: u8, random: &mut Random) -> Made {
             made(name, blocks.concat(), refusal, at)
         }
         Mixed::CheckThenMore => {
-            spoil_block(&mut blocks[last], last, Block::Check, random);
+            spoil_block(&mut blocks[last], last, Block::Check, Place::Middle, random);
             blocks.push(vec![0; random.within(1, 600) as usize]);
             made(name, blocks.concat(), 13, 4 * (last - 1))
         }
@@ -630,7 +609,7 @@ mod tests {
         assert_eq!(count, 160, "two of three seeds: 240 books have every case");
         for round in 0..40 {
             for turn in 0..count {
-                let made = make(turn, &mut Random::new(round * 1_000 + turn));
+                let made = make(turn, (round % 8) as u8, &mut Random::new(round * 1_000 + turn));
                 let output = output_of(&made.bytes, second_line);
                 let (number, at) = made.expected.expect("a broken book says why");
                 assert!(

@@ -3,7 +3,7 @@
 use super::book_bytes;
 use super::broken;
 use super::random::Random;
-use super::tracks::{seconds, Calls, End, Errors, Mover, Ninth, Switch, Track, Values};
+use super::tracks::{seconds, Calls, End, Errors, Mover, Ninth, Switch, Track, Values, EXACT_EDGES};
 use crate::record::Record;
 use std::array;
 
@@ -27,30 +27,31 @@ pub const WHOLE: [&str; 9] = [
     "wild",
 ];
 
-/// Family and turn within it: one seed of three makes a whole book, the others a broken one, all in turn.
-pub fn chosen(seed: u64) -> (&'static str, u64) {
+/// Family, turn within it and owner: one seed of three makes a whole book, the others a broken one, all in turn.
+pub fn chosen(seed: u64) -> (&'static str, u64, u8) {
     let round = seed / 3;
+    let owner = (round % 8) as u8;
     match seed % 3 {
-        0 => (WHOLE[(round % WHOLE.len() as u64) as usize], round / WHOLE.len() as u64),
-        rest => ("broken", 2 * round + rest - 1),
+        0 => (WHOLE[(round % WHOLE.len() as u64) as usize], round / WHOLE.len() as u64, owner),
+        rest => ("broken", 2 * round + rest - 1, owner),
     }
 }
 
 /// The book of a seed, of the family given or of the one that the seed chooses.
 pub fn make(seed: u64, family: Option<&str>) -> Result<Made, String> {
-    let (family, turn) = match family {
+    let (family, turn, owner) = match family {
         None => chosen(seed),
-        Some("edges") => (WHOLE[2 + (seed % 6) as usize], seed / 6),
-        Some(given) => (given, seed),
+        Some("edges") => (WHOLE[2 + (seed % 6) as usize], seed / 6, (seed % 8) as u8),
+        Some(given) => (given, seed, (seed % 8) as u8),
     };
     let mut random = Random::new(seed);
-    let owner = (turn % 8) as u8;
     let (mut tracks, count): ([Track; 3], i64) = match family {
+        "calm" if turn % 3 == 0 => (array::from_fn(|_| calm_call(&mut random)), random.within(2_700, 3_600)),
         "calm" => (array::from_fn(|_| calm(&mut random)), random.within(200, 1_500)),
         "storm" => return Ok(storm(turn, owner, &mut random)),
         "edge-calls" => (
             array::from_fn(|plant| edge_calls(3 * turn as usize + plant, &mut random)),
-            random.within(1_900, 3_700),
+            random.within(2_750, 3_700) + if turn % 3 == 0 { 950 } else { 0 },
         ),
         "edge-fcr" => (array::from_fn(|_| edge_fcr(&mut random)), random.within(100, 600)),
         "edge-afrr" => (array::from_fn(|_| edge_afrr(&mut random)), random.within(700, 1_500)),
@@ -61,7 +62,7 @@ pub fn make(seed: u64, family: Option<&str>) -> Result<Made, String> {
         "edge-shares" => (array::from_fn(|_| edge_shares(&mut random)), random.within(50, 500)),
         "edge-switches" => (array::from_fn(|_| edge_switches(&mut random)), random.within(100, 1_500)),
         "wild" => (array::from_fn(|_| wild(&mut random)), random.within(50, 1_000)),
-        "broken" => return Ok(broken::make(turn, &mut random)),
+        "broken" => return Ok(broken::make(turn, owner, &mut random)),
         "long" => return Ok(long(seed, 90_000)),
         other => return Err(format!("no family {}", other)),
     };
@@ -114,10 +115,20 @@ fn calm(random: &mut Random) -> Track {
     }
 }
 
+/// A single call from its start to the rest after it.
+fn calm_call(random: &mut Random) -> Track {
+    Track {
+        calls: Calls::Once(random.within(0, 900)),
+        ends: End::First,
+        next_call: 0,
+        ..calm(random)
+    }
+}
+
 /// Overlapping calls; in two of three books one plant asks for a ninth leftover.
 fn storm(turn: u64, owner: u8, random: &mut Random) -> Made {
     let mut tracks: [Track; 3] = array::from_fn(|_| {
-        let (least, most) = random.pick(&[(1, 1), (1, 60), (1, 120), (60, 200)]);
+        let (least, most) = random.pick(&[(1, 1), (1, 60), (1, 120), (60, 200), (200, 1_300)]);
         Track {
             fcr_held: Mover::fixed(random.within(0, 20) * 500),
             deviation: Mover::new(Values::Walk(15, -210, 210), &[1, 3]),
@@ -132,7 +143,7 @@ fn storm(turn: u64, owner: u8, random: &mut Random) -> Made {
                 Values::Walk(3_000, -1_000_000, 1_000_000),
                 Values::Choice(&[-7, -5, -1, 0, 1, 3, 5, 9]),
             ]),
-            ends: random.pick(&[End::First, End::Last, End::Any, End::Any]),
+            ends: random.pick(&[End::First, End::Last, End::Any, End::LastThenFirst]),
             errors: Errors::AtBands,
             next_call: random.within(0, 40),
             ..Track::still()
@@ -164,8 +175,10 @@ fn storm(turn: u64, owner: u8, random: &mut Random) -> Made {
     }
 }
 
-/// New calls exactly at, before and after j + 900, D and D + 900 of the old one.
-fn edge_calls(edge: usize, random: &mut Random) -> Track {
+/// New calls exactly at, before and after j + 900, D and D + 900 of the old one; the first of them in turn. A first
+/// call at 0 or 900 has no second of delivering, another one has.
+fn edge_calls(turn: usize, random: &mut Random) -> Track {
+    let first = random.within(1, 899);
     Track {
         fcr_held: Mover::fixed(random.within(0, 4) * 1_000),
         deviation: Mover::new(Values::Walk(10, -60, 60), &[5]),
@@ -179,10 +192,10 @@ fn edge_calls(edge: usize, random: &mut Random) -> Track {
             Values::Choice(&[-901, -900, -899, -450, -10, -1, 0, 1, 10, 450, 899, 900, 901]),
             Values::Choice(&[9_000, -9_000, 0]),
         ]),
-        ends: random.pick(&[End::First, End::First, End::Any, End::Last]),
+        ends: if turn % EXACT_EDGES < 3 { End::LastThenFirst } else { End::First },
         errors: random.pick(&[Errors::AtBands, Errors::Noise(3_000)]),
-        next_call: random.pick(&[0, 0, 1, 899, 900, 37]),
-        edge,
+        next_call: random.pick(&[0, 900, first, first, first]),
+        edge: turn % EXACT_EDGES,
         ..Track::still()
     }
 }

@@ -100,6 +100,8 @@ pub enum End {
     First,
     Last,
     Any,
+    /// The last for a call on a resting signal, else the first: delivering lasts long and is interrupted.
+    LastThenFirst,
 }
 
 /// When a kind whose setpoint is 0 is on; one whose setpoint is not 0 always is.
@@ -143,6 +145,10 @@ pub struct Track {
 
 const LARGEST: i64 = 4_000_000;
 
+/// How many edges of a call there are; the first nine are exact ones.
+const EDGES: usize = 12;
+pub const EXACT_EDGES: usize = 9;
+
 impl Track {
     /// All kinds on, nothing moving.
     pub fn still() -> Track {
@@ -165,13 +171,15 @@ impl Track {
         }
     }
 
-    fn delivery_end(&self, now: i64, random: &mut Random) -> i64 {
+    fn delivery_end(&self, now: i64, plant: &Plant, random: &mut Random) -> i64 {
         let first = (now + 900 + 899) / 900 * 900;
         let last = (now + 3_600) / 900 * 900;
         match self.ends {
             End::First => first,
             End::Last => last,
             End::Any => random.within(first / 900, last / 900) * 900,
+            End::LastThenFirst if plant.mfrr.resting(now) => last,
+            End::LastThenFirst => first,
         }
     }
 
@@ -196,26 +204,26 @@ impl Track {
 
     /// Decides when the next call comes, after one at `now` with delivery end `end`.
     fn plan(&mut self, now: i64, end: i64, random: &mut Random) {
-        self.edge += 1;
         self.next_call = match self.calls {
             Calls::Every(least, most) | Calls::Ninth(least, most, _) => now + random.within(least, most),
-            Calls::Edges => match self.edge % 15 {
-                0 => now + 1,
-                1 => now + random.within(2, 898),
-                2 => now + 899,
-                3 | 4 => now + 900,
-                5 => now + 901,
-                6 => end - 1,
-                7 | 8 => end,
-                9 => end + 1,
-                10 => end + random.within(2, 898),
-                11 => end + 899,
-                12 | 13 => end + 900,
-                _ => end + 901,
+            Calls::Edges => match self.edge % EDGES {
+                0 => now + 899,
+                1 => now + 900,
+                2 => now + 901,
+                3 => end - 1,
+                4 => end,
+                5 => end + 1,
+                6 => end + 899,
+                7 => end + 900,
+                8 => end + 901,
+                9 => now + 1,
+                10 => now + random.within(2, 898),
+                _ => end + random.within(2, 898),
             }
             .max(now + 1),
             Calls::Never | Calls::Once(_) => i64::MAX,
         };
+        self.edge += 5;
     }
 
     fn target(&mut self, now: i64, plant: &Plant, random: &mut Random) -> i64 {
@@ -265,7 +273,7 @@ impl Track {
             ..Record::default()
         };
         if self.calls_now(now, plant) {
-            let end = self.delivery_end(now, random);
+            let end = self.delivery_end(now, plant, random);
             record.call = 1;
             record.mfrr_target = self.target(now, plant, random) as i32;
             record.delivery_end = end as u32;
