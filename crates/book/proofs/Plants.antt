@@ -25,7 +25,7 @@ use Rattle.book.specs.declared.Book.{Book}
 use Rattle.book.specs.declared.BookAnswer.the-variants.{Rows}
 use Rattle.book.specs.declared.BookStep.{BookStep}
 use Rattle.book.specs.declared.Plant.the-variants.{Unit, A, B}
-use Rattle.book.specs.Seconds.{BookSecond, unitBytes, aBytes, bBytes, difference, dueOf}
+use Rattle.book.specs.Seconds.{BookSecond, unitBytes, aBytes, bBytes, dueFrom, dueOf}
 use Rattle.book.specs.Rows.{valuesOf, soldByA, soldByB, unitPoint}
 use Rattle.book.specs.State.{secondOf, unitIn, aIn, bIn, sumsWith, refusedBy, plantsIn, mostAtUnit, mostAtPool, mostValues, Ready, SumsReady, InRange, Summed, Pooled, PartsOf, PlantsStepped}
 use Rattle.book.proofs.Sizes.{values-small, due-small, sums-longer, sums-more}
@@ -118,7 +118,7 @@ module _ (k : Book) (o : ℕ) (u a b : List ℕ) (ready : Ready k) (pu : PlantSt
             given-range (k .b) b (point +ℤ vb) point pb eb rb erb,
           )
 
-          module _ (d : ℤ) (ed : d ≡ difference (recordOf u) +ℤ (difference (recordOf a) +ℤ difference (recordOf b))) where
+          module _ (d : ℤ) (ed : d ≡ dueFrom u a b) where
             pub summed : Summed ru ra rb d
             summed =
                 record {
@@ -134,8 +134,7 @@ module _ (k : Book) (o : ℕ) (u a b : List ℕ) (ready : Ready k) (pu : PlantSt
             due-is : (s : List ℕ) → PartsOf s u a b → d ≡ dueOf s
             unfolding dueOf
             due-is s parts =
-                ed
-                ∙ (λ i. difference (recordOf (parts .unit-part i)) +ℤ (difference (recordOf (parts .a-part i)) +ℤ difference (recordOf (parts .b-part i))))
+                ed ∙ (λ i. dueFrom (parts .unit-part i) (parts .a-part i) (parts .b-part i))
 
             module _ (q : Sums) (eq : q ≡ sumsWith (k .sums) ru ra rb d) where
               abbrev rows-step : BookStep

@@ -36,5 +36,8 @@ pastOf part h = map (λ (s : BookSecond). recordOf (part (s .bytes))) h
 abbrev pub difference : Record → ℤ
 difference x = x .measured .0 -ℤ x .«working_point» .0
 
+abbrev pub dueFrom : List ℕ → List ℕ → List ℕ → ℤ
+dueFrom u a b = difference (recordOf u) +ℤ (difference (recordOf a) +ℤ difference (recordOf b))
+
 unfoldable pub dueOf : List ℕ → ℤ
-dueOf s = difference (recordOf (unitBytes s)) +ℤ (difference (recordOf (aBytes s)) +ℤ difference (recordOf (bBytes s)))
+dueOf s = dueFrom (unitBytes s) (aBytes s) (bBytes s)

@@ -4,7 +4,8 @@ use mathlib.Core.Path.{_≡_}
 use mathlib.Core.List.{List, []}
 use lib.IntN.{ℤ, pos, _+ℤ_}
 use Rattle.numbers.specs.Bounds.{Within}
-use Rattle.record.specs.declared.KindBits.{KindBits}
+use lib.ListN.{length}
+use Rattle.record.specs.Record.{size, recordOf}
 use Rattle.record.specs.declared.Record.{Record}
 use Rattle.row.specs.declared.Row.{Row}
 use Rattle.row.specs.declared.sums.KwSeconds.{KwSeconds}
@@ -176,10 +177,15 @@ pub record Summed (u a b : Row) (d : ℤ) : Type 0 where
   pub b-sized : SizedRow mostAtPool b
   pub due-small : Within mostInSecond d
 
--- the records of an accepted second
+-- the record of a plant in an accepted second
 pub record InRange (x : Record) : Type 0 where
   pub measured : Within mostPower (x .measured .0)
   pub working-point : Within mostPower (x .«working_point» .0)
+
+-- a plant's 36 bytes in an accepted second
+pub record Readable (s : List ℕ) : Type 0 where
+  pub whole : length s ≡ size
+  pub range : InRange (recordOf s)
 
 -- the plants' bytes, where s is the book second
 pub record PartsOf (s u a b : List ℕ) : Type 0 where

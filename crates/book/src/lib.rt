@@ -12,7 +12,7 @@ use power::Kw;
 use row::KwSeconds;
 use row::Row;
 use row::Sums;
-use sums::due_of;
+use sums::due_in;
 use sums::with_second;
 use unit::others;
 use unit::values_of;
@@ -149,8 +149,6 @@ impl Book {
         let PlantAnswer::Row(b_row) = b_answer else {
             return self.refused_by(Plant::B, number_in(b_answer));
         };
-        let a_record = record::fields_of(a);
-        let b_record = record::fields_of(b);
         let next_unit = unit_step.state;
         let next_a = a_step.state;
         let next_b = b_step.state;
@@ -165,13 +163,7 @@ impl Book {
                 unit: next_unit,
                 a: next_a,
                 b: next_b,
-                sums: with_second(
-                    old_sums,
-                    unit_row,
-                    a_row,
-                    b_row,
-                    due_of(unit_record, a_record, b_record),
-                ),
+                sums: with_second(old_sums, unit_row, a_row, b_row, due_in(unit, a, b)),
             },
         }
     }

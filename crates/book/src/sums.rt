@@ -8,8 +8,8 @@ ghost use lib.IntN.{_+ℤ_};
 ghost use Rattle.numbers.specs.Bounds.{Within};
 ghost use Rattle.plant.specs.Refusals.{mostSeconds};
 ghost use Rattle.sharing.specs.Sizes.{SizedRow};
-ghost use Rattle.book.specs.Seconds.{difference};
-ghost use Rattle.book.specs.State.{mostSummand, mostAtUnit, mostAtPool, actualsOf, openOf, sumsWith, InRange, SumsReady, Summed};
+ghost use Rattle.book.specs.Seconds.{difference, dueFrom};
+ghost use Rattle.book.specs.State.{mostSummand, mostAtUnit, mostAtPool, actualsOf, openOf, sumsWith, InRange, Readable, SumsReady, Summed};
 
 // The sum of three powers of a second.
 pub(crate) fn sum_of(x: Kw, y: Kw, z: Kw) -> Kw
@@ -45,12 +45,16 @@ fn difference(x: Record) -> Kw
     measured.minus(working_point)
 }
 
-// What is due in a second, from the three records.
-pub(crate) fn due_of(u: Record, a: Record, b: Record) -> Kw
-    requires { ⌜ InRange u × InRange a × InRange b ⌝ }
-    ensures { λ v. ⌜ v .0 ≡ difference u +ℤ (difference a +ℤ difference b) ⌝ }
+// What is due in a second, read from its bytes: U, A and B, each once.
+pub(crate) fn due_in(u: &[u8], a: &[u8], b: &[u8]) -> Kw
+    requires { ⌜ Readable (now u) × Readable (now a) × Readable (now b) ⌝ }
+    ensures { λ v. ⌜ v .0 ≡ dueFrom (now (u .entry)) (now (a .entry)) (now (b .entry)) ⌝ }
 {
-    sum_of(difference(u), difference(a), difference(b))
+    sum_of(
+        difference(record::fields_of(u)),
+        difference(record::fields_of(a)),
+        difference(record::fields_of(b)),
+    )
 }
 
 // The sums with a second more.

@@ -1,12 +1,9 @@
 -- `book::Book::plants` meets its contract: plant by plant. Assumes nothing.
 use mathlib.Core.Path.{_≡_, ap, _∙_}
 use Prim.Native.Nat.{ℕ}
-use lib.IntN.{_+ℤ_}
 use denote.Ref.{now}
 use Rattle.record.specs.declared.KindBits.{KindBits}
-use Rattle.record.specs.Record.{recordOf}
 use Rattle.row.specs.declared.Row.{Row}
-use Rattle.book.specs.Seconds.{difference}
 use Rattle.book.specs.Rows.{valuesOf, others, soldByA, soldByB}
 use Rattle.book.proofs.Sizes.{values-small}
 use Rattle.book.proofs.Plants.{unit-refused, unit-sized, pooled, a-refused, b-refused, ranges, summed, sums-ready, all-rows}
@@ -145,56 +142,45 @@ returns-3 c =
     let g = start p .args in
     rw (c .refused-by3 .ensures) (b-refused (g .self) (g .owner) (now (g .unit)) (now (g .a)) (now (g .b)) (start p .pre .0) (p .second .result) (p .second .ensures) (f .before .before .unit-answer .given .1) (f .fields-of .result) (f .fields-of .ensures) (q .before .values-of .result .0) (a-values (q .before)) (q .pool-second .result) (q .pool-second .ensures) (r .before .before .before .before .a-answer .given .1) (r .before .values-of2 .result .0) (b-values (r .before)) (r .pool-second2 .result) (r .pool-second2 .ensures) (c .before .before .enum-told3 .given .1) (c .before .number-in3 .ensures))
 
-fields-of-requires-2 : tie.Need-fields-of-requires-2
-fields-of-requires-2 c κs =
-    let r = c .before .before .before in
-    start (unit-at (at-a (at-b r))) .pre .2
+-- after all three rows
+abbrev at-rows : tie.After-old-sums → tie.After-pool-second2
+at-rows e = e .before .before .before .before .before .before .before
 
-fields-of-requires-3 : tie.Need-fields-of-requires-3
-fields-of-requires-3 c κs =
-    let r = c .before .before .before .before in
-    start (unit-at (at-a (at-b r))) .pre .3
-
-due-of-requires : tie.Need-due-of-requires
-due-of-requires c κs =
-    let e = c .before .before .before .before in
-    let r = e .before .before .before .before .before in
+due-in-requires : tie.Need-due-in-requires
+due-in-requires c κs =
+    let e = c in
+    let r = at-rows e in
     let q = at-b r in
     let f = at-a q in
     let p = unit-at f in
     let g = start p .args in
-    let n = ranges (g .self) (g .owner) (now (g .unit)) (now (g .a)) (now (g .b)) (start p .pre .0) (p .second .result) (p .second .ensures) (f .before .before .unit-answer .given .1) (f .fields-of .result) (f .fields-of .ensures) (q .before .values-of .result .0) (a-values (q .before)) (q .pool-second .result) (q .pool-second .ensures) (r .before .before .before .before .a-answer .given .1) (r .before .values-of2 .result .0) (b-values (r .before)) (r .pool-second2 .result) (r .pool-second2 .ensures) (e .before .before .before .b-answer .given .1) in
-    (rw (f .fields-of .ensures) (n .0), rw (e .before .fields-of2 .ensures) (n .1), rw (e .fields-of3 .ensures) (n .2))
-
--- what is due, from the three records
-due-eq : (d : tie.After-due-of) → d .due-of .result .0 ≡ difference (recordOf (now (start (unit-at (at-a (at-b (d .before .before .before .before .before .before .before .before .before .before)))) .args .unit))) +ℤ (difference (recordOf (now (start (unit-at (at-a (at-b (d .before .before .before .before .before .before .before .before .before .before)))) .args .a))) +ℤ difference (recordOf (now (start (unit-at (at-a (at-b (d .before .before .before .before .before .before .before .before .before .before)))) .args .b))))
-due-eq d =
-    let e = d .before .before .before .before .before in
-    let f = at-a (at-b (e .before .before .before .before .before)) in
-    d .due-of .ensures
-    ∙ (λ i. difference (f .fields-of .ensures i) +ℤ (difference (e .before .fields-of2 .ensures i) +ℤ difference (e .fields-of3 .ensures i)))
+    let n = ranges (g .self) (g .owner) (now (g .unit)) (now (g .a)) (now (g .b)) (start p .pre .0) (p .second .result) (p .second .ensures) (f .before .before .unit-answer .given .1) (f .fields-of .result) (f .fields-of .ensures) (q .before .values-of .result .0) (a-values (q .before)) (q .pool-second .result) (q .pool-second .ensures) (r .before .before .before .before .a-answer .given .1) (r .before .values-of2 .result .0) (b-values (r .before)) (r .pool-second2 .result) (r .pool-second2 .ensures) (e .before .before .before .before .before .b-answer .given .1) in (
+      record { whole = start p .pre .1; range = n .0 },
+      record { whole = start p .pre .2; range = n .1 },
+      record { whole = start p .pre .3; range = n .2 },
+    )
 
 with-second-requires : tie.Need-with-second-requires
 with-second-requires c κs =
-    let d = c in
-    let e = d .before .before .before .before .before in
-    let r = e .before .before .before .before .before in
+    let e = c .before in
+    let r = at-rows e in
     let q = at-b r in
     let f = at-a q in
     let p = unit-at f in
-    let g = start p .args in
-    (sums-ready (g .self) (g .owner) (now (g .unit)) (now (g .a)) (now (g .b)) (start p .pre .0) (p .second .result) (p .second .ensures) (f .before .before .unit-answer .given .1) (f .fields-of .result) (f .fields-of .ensures) (q .before .values-of .result .0) (a-values (q .before)) (q .pool-second .result) (q .pool-second .ensures) (r .before .before .before .before .a-answer .given .1) (r .before .values-of2 .result .0) (b-values (r .before)) (r .pool-second2 .result) (r .pool-second2 .ensures) (e .before .before .before .b-answer .given .1) (d .due-of .result .0) (due-eq d), summed (g .self) (g .owner) (now (g .unit)) (now (g .a)) (now (g .b)) (start p .pre .0) (p .second .result) (p .second .ensures) (f .before .before .unit-answer .given .1) (f .fields-of .result) (f .fields-of .ensures) (q .before .values-of .result .0) (a-values (q .before)) (q .pool-second .result) (q .pool-second .ensures) (r .before .before .before .before .a-answer .given .1) (r .before .values-of2 .result .0) (b-values (r .before)) (r .pool-second2 .result) (r .pool-second2 .ensures) (e .before .before .before .b-answer .given .1) (d .due-of .result .0) (due-eq d))
+    let g = start p .args in (
+      sums-ready (g .self) (g .owner) (now (g .unit)) (now (g .a)) (now (g .b)) (start p .pre .0) (p .second .result) (p .second .ensures) (f .before .before .unit-answer .given .1) (f .fields-of .result) (f .fields-of .ensures) (q .before .values-of .result .0) (a-values (q .before)) (q .pool-second .result) (q .pool-second .ensures) (r .before .before .before .before .a-answer .given .1) (r .before .values-of2 .result .0) (b-values (r .before)) (r .pool-second2 .result) (r .pool-second2 .ensures) (e .before .before .before .before .before .b-answer .given .1) (c .due-in .result .0) (c .due-in .ensures),
+      summed (g .self) (g .owner) (now (g .unit)) (now (g .a)) (now (g .b)) (start p .pre .0) (p .second .result) (p .second .ensures) (f .before .before .unit-answer .given .1) (f .fields-of .result) (f .fields-of .ensures) (q .before .values-of .result .0) (a-values (q .before)) (q .pool-second .result) (q .pool-second .ensures) (r .before .before .before .before .a-answer .given .1) (r .before .values-of2 .result .0) (b-values (r .before)) (r .pool-second2 .result) (r .pool-second2 .ensures) (e .before .before .before .before .before .b-answer .given .1) (c .due-in .result .0) (c .due-in .ensures),
+    )
 
 returns-4 : tie.Need-returns-4
 returns-4 c =
-    let d = c .before in
-    let e = d .before .before .before .before .before in
-    let r = e .before .before .before .before .before in
+    let e = c .before .before in
+    let r = at-rows e in
     let q = at-b r in
     let f = at-a q in
     let p = unit-at f in
     let g = start p .args in
-    all-rows (g .self) (g .owner) (now (g .unit)) (now (g .a)) (now (g .b)) (start p .pre .0) (p .second .result) (p .second .ensures) (f .before .before .unit-answer .given .1) (f .fields-of .result) (f .fields-of .ensures) (q .before .values-of .result .0) (a-values (q .before)) (q .pool-second .result) (q .pool-second .ensures) (r .before .before .before .before .a-answer .given .1) (r .before .values-of2 .result .0) (b-values (r .before)) (r .pool-second2 .result) (r .pool-second2 .ensures) (e .before .before .before .b-answer .given .1) (d .due-of .result .0) (due-eq d) (c .with-second .result) (c .with-second .ensures)
+    all-rows (g .self) (g .owner) (now (g .unit)) (now (g .a)) (now (g .b)) (start p .pre .0) (p .second .result) (p .second .ensures) (f .before .before .unit-answer .given .1) (f .fields-of .result) (f .fields-of .ensures) (q .before .values-of .result .0) (a-values (q .before)) (q .pool-second .result) (q .pool-second .ensures) (r .before .before .before .before .a-answer .given .1) (r .before .values-of2 .result .0) (b-values (r .before)) (r .pool-second2 .result) (r .pool-second2 .ensures) (e .before .before .before .before .before .b-answer .given .1) (c .before .due-in .result .0) (c .before .due-in .ensures) (c .with-second .result) (c .with-second .ensures)
 
 pub plants-spec : {M : Type 1} → statement M
 plants-spec =
@@ -223,8 +209,6 @@ plants-spec =
     number-in-requires-3
     refused-by-requires-3
     returns-3
-    fields-of-requires-2
-    fields-of-requires-3
-    due-of-requires
+    due-in-requires
     with-second-requires
     returns-4)
