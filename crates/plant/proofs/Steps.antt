@@ -38,7 +38,7 @@ use Rattle.plant.specs.declared.PlantStep.{PlantStep}
 use Rattle.plant.specs.Seconds.{afrrSecond, mfrrSecond}
 use Rattle.plant.specs.Refusals.{recordNumber}
 use Rattle.plant.specs.Rows.{offNumber, rowBy, sharedDifference}
-use Rattle.plant.specs.State.{fcrStepIn, mfrrStepIn, kindsWith, kindsIn, grownIn, refusedIn, stepBy, kindsStepIn, mfrrKind, givenIn, callStepIn, recordStepIn, readIn, stepIn, Ready, Added, Shareable, Given, StepFacts, RecordPassed, CallStepped, CallPassed, KindsStepped, Stepped}
+use Rattle.plant.specs.State.{fcrStepIn, mfrrStepIn, kindsWith, kindsIn, nextWith, grownIn, refusedIn, stepBy, kindsStepIn, mfrrKind, givenIn, callStepIn, recordStepIn, readIn, stepIn, Ready, Added, Shareable, Given, StepFacts, RecordPassed, CallStepped, CallPassed, KindsStepped, Stepped}
 use Rattle.plant.proofs.Passed.{passed}
 use Rattle.plant.proofs.Run.{over-past}
 
@@ -110,11 +110,7 @@ module _ (st : PlantState) (x : Record) (k : Kind) (next : MfrrState) (m w : ℤ
 
     module _ (r : Row) (er : r ≡ rowBy x ks m w) where
       abbrev taken : PlantStep
-      taken =
-          record {
-            answer = answer.Row r;
-            state = record { seconds = st .seconds + 1; fcr = f .state; afrr = a .state; mfrr = next };
-          }
+      taken = record { answer = answer.Row r; state = nextWith st (f .state) (a .state) next }
 
       row-given : Given x m w r
       row-given =
@@ -129,7 +125,7 @@ module _ (st : PlantState) (x : Record) (k : Kind) (next : MfrrState) (m w : ℤ
       taken-is e =
           (λ i. record {
             answer = answer.Row ((er ∙ ap (λ (l : Kinds). rowBy x l m w) kinds-is) i);
-            state = record { seconds = st .seconds + 1; fcr = fcr-is i .state; afrr = ea .is i .state; mfrr = next };
+            state = nextWith st (fcr-is i .state) (ea .is i .state) next;
           })
           ∙ by-none (offNumber (kindsIn st x k)) st _ (ap offNumber (sym kinds-is) ∙ e)
 
