@@ -3,3 +3,4 @@ pub mod Past
 pub mod Sizes
 pub mod Steps
 pub mod Run
+pub mod Counted

@@ -100,11 +100,11 @@ module _ where
   all-accepted [] h a = a
   all-accepted (s ∷ ss) h a = all-accepted ss (grown h (s .bytes)) (still-accepted h a (s .bytes))
 
-also-accepted : (h : History) (x : Record) → recordNumberAt h x ≡ 0 → Accepted h → Accepted (x ∷ h)
+pub also-accepted : (h : History) (x : Record) → recordNumberAt h x ≡ 0 → Accepted h → Accepted (x ∷ h)
 unfolding Accepted
 also-accepted h x e a = (e, a)
 
-none-accepted : Accepted []
+pub none-accepted : Accepted []
 unfolding Accepted
 none-accepted = tt
 
