@@ -2,7 +2,7 @@
 use mathlib.Core.Path.{_≡_, refl, sym, ap, _∙_, subst}
 use mathlib.Core.Bool.{Bool, true, false, cond}
 use mathlib.Core.List.{List}
-use Prim.Native.Nat.{ℕ, zero, suc, _+_}
+use Prim.Native.Nat.{ℕ, zero, suc}
 use native.Mathlib.Omega.{arith}
 use lib.Dec.{eqb}
 use lib.IntN.{ℤ}
@@ -27,7 +27,6 @@ use Rattle.afrr.specs.declared.AfrrStep.{AfrrStep}
 use Rattle.afrr.specs.State as afrr
 use Rattle.mfrr.specs.declared.MfrrState.{MfrrState}
 use Rattle.mfrr.specs.declared.MfrrStep.{MfrrStep}
-use Rattle.mfrr.specs.declared.MfrrAnswer.{MfrrAnswer}
 use Rattle.mfrr.specs.declared.MfrrAnswer.the-variants as mfrr-answer
 use Rattle.mfrr.specs.Signal as mfrr-signal
 use Rattle.mfrr.specs.State as mfrr
@@ -38,8 +37,9 @@ use Rattle.plant.specs.declared.PlantStep.{PlantStep}
 use Rattle.plant.specs.Seconds.{afrrSecond, mfrrSecond}
 use Rattle.plant.specs.Refusals.{recordNumber}
 use Rattle.plant.specs.Rows.{offNumber, rowBy, sharedDifference}
-use Rattle.plant.specs.State.{fcrStepIn, mfrrStepIn, kindsWith, kindsIn, grownIn, refusedIn, stepBy, kindsStepIn, mfrrKind, givenIn, callStepIn, recordStepIn, readIn, stepIn, Ready, Added, Shareable, Given, StepFacts, RecordPassed, CallStepped, CallPassed, KindsStepped, Stepped}
+use Rattle.plant.specs.State.{fcrStepIn, kindsWith, kindsIn, nextWith, grownIn, refusedIn, stepBy, kindsStepIn, mfrrKind, callStepIn, recordStepIn, stepIn, Ready, Added, Shareable, Given, StepFacts, RecordPassed, CallStepped, CallPassed, KindsStepped, Stepped}
 use Rattle.plant.proofs.Passed.{passed}
+use Rattle.plant.proofs.Counted.{never, kept}
 use Rattle.plant.proofs.Run.{over-past}
 
 -- ---- by a number
@@ -53,10 +53,7 @@ by-none n st given e = rw e
 
 -- a refusal keeps the state, and gives no row
 pub refused-facts : (st : PlantState) (n : ℕ) (x : Record) (m w : ℤ) → Ready st → StepFacts x m w (refusedIn st n)
-refused-facts st n x m w r = record { ready = r; given = λ e. absurd (never e) }
-  where
-    never : {q : Row} → answer.Refused n ≡ answer.Row q → ⊥
-    never e = let z : _≡_ {A = ℕ} 0 1 = cc in omega arith
+refused-facts st n x m w r = record { ready = r; given = λ {q} e. never n q e }
 
 -- ---- with what mFRR gave
 
@@ -110,11 +107,7 @@ module _ (st : PlantState) (x : Record) (k : Kind) (next : MfrrState) (m w : ℤ
 
     module _ (r : Row) (er : r ≡ rowBy x ks m w) where
       abbrev taken : PlantStep
-      taken =
-          record {
-            answer = answer.Row r;
-            state = record { seconds = st .seconds + 1; fcr = f .state; afrr = a .state; mfrr = next };
-          }
+      taken = record { answer = answer.Row r; state = nextWith st (f .state) (a .state) next }
 
       row-given : Given x m w r
       row-given =
@@ -129,7 +122,7 @@ module _ (st : PlantState) (x : Record) (k : Kind) (next : MfrrState) (m w : ℤ
       taken-is e =
           (λ i. record {
             answer = answer.Row ((er ∙ ap (λ (l : Kinds). rowBy x l m w) kinds-is) i);
-            state = record { seconds = st .seconds + 1; fcr = fcr-is i .state; afrr = ea .is i .state; mfrr = next };
+            state = nextWith st (fcr-is i .state) (ea .is i .state) next;
           })
           ∙ by-none (offNumber (kindsIn st x k)) st _ (ap offNumber (sym kinds-is) ∙ e)
 
@@ -181,44 +174,15 @@ module _ (st : PlantState) (x : Record) (m w : ℤ) (record-passed : RecordPasse
     unfolding callStepIn
     call-given r q = record { is = q .is ∙ rw (← (ep .is), e, ek); facts = q .facts }
 
--- ---- a refusal keeps the state, from whatever state
-
-abbrev Keeps : PlantState → PlantStep → Type 0
-Keeps st p = (n : ℕ) → p .answer ≡ answer.Refused n → p .state ≡ st
-
-keeps-by : (n : ℕ) (st : PlantState) (given : PlantStep) → Keeps st given → Keeps st (stepBy n st given)
-keeps-by zero st given k = k
-keeps-by (suc n) st given k = λ i e. refl
-
-row-keeps : (q : Row) (st next : PlantState) → Keeps st (record { answer = answer.Row q; state = next })
-row-keeps q st next n e = let z : _≡_ {A = ℕ} 0 1 = cc in absurd (omega arith)
-
-kinds-keep : (st : PlantState) (x : Record) (k : Kind) (next : MfrrState) (m w : ℤ) → Keeps st (kindsStepIn st x k next m w)
-unfolding kindsStepIn
-kinds-keep st x k next m w = keeps-by (offNumber (kindsIn st x k)) st _ (row-keeps _ st _)
-
-given-keeps : (a : MfrrAnswer) (next : MfrrState) (st : PlantState) (x : Record) (m w : ℤ) → Keeps st (givenIn a next st x m w)
-given-keeps (mfrr-answer.Given s b) next st x m w = kinds-keep st x (mfrrKind x s b) next m w
-given-keeps (mfrr-answer.Refused n) next st x m w = λ i e. refl
-
-read-keeps : (r : Reading) (st : PlantState) (m w : ℤ) → Keeps st (readIn r st m w)
-unfolding recordStepIn callStepIn
-read-keeps (reading.Fields x) st m w = keeps-by (recordNumber (st .seconds) x) st _ (given-keeps (mfrrStepIn st x .answer) (mfrrStepIn st x .state) st x m w)
-read-keeps (reading.Refused n) st m w = λ i e. refl
-
--- ---- the contract, from what the step is and what it says of any state
+-- ---- the contract, from what the step is and what callers need of it
 
 module _ (st : PlantState) (s : List ℕ) (m w : ℤ) where
-  kept : Keeps st (stepIn st s m w)
-  unfolding stepIn
-  kept = read-keeps (readingOf s) st m w
-
   pub stepped : (r : PlantStep) → r ≡ stepIn st s m w → StepFacts (recordOf s) m w r → Stepped st s m w r
   stepped r e f =
       record {
         is = e;
         past = λ h a p. rw (e, p) (over-past h a s m w);
-        kept = subst (Keeps st) (sym e) kept;
+        kept = rw e (kept st s m w);
         facts = f;
       }
 

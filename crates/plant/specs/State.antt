@@ -13,8 +13,10 @@ use Rattle.record.specs.Record.{recordOf, readingOf, bitsOf}
 use Rattle.row.specs.declared.Row.{Row}
 use Rattle.sharing.specs.declared.kinds.Kind.{Kind}
 use Rattle.sharing.specs.Sizes.{SizedKind, SizedKinds, SizedRow}
+use Rattle.fcr.specs.declared.FcrState.{FcrState}
 use Rattle.fcr.specs.declared.FcrStep.{FcrStep}
 use Rattle.fcr.specs.State as fcr
+use Rattle.afrr.specs.declared.AfrrState.{AfrrState}
 use Rattle.afrr.specs.declared.AfrrStep.{AfrrStep}
 use Rattle.afrr.specs.State as afrr
 use Rattle.mfrr.specs.declared.MfrrState.{MfrrState}
@@ -57,10 +59,13 @@ kindsIn st x mfrr = kindsWith x (fcrSetpoint x) (fcrStepIn st x .band) (afrrStep
 abbrev pub mfrrKind : Record → Kw → Band → Kind
 mfrrKind x s b = record { on = bitsOf (x .status) .mfrr; setpoint = s; band = b }
 
--- the state after record x, where mFRR's is `next`: the carried limits run on, whether a kind is on or off
+-- the state after an accepted second, by the kinds' states after it
+abbrev pub nextWith : PlantState → FcrState → AfrrState → MfrrState → PlantState
+nextWith st fcr afrr mfrr = record { seconds = st .seconds + 1; fcr = fcr; afrr = afrr; mfrr = mfrr }
+
+-- after record x, where mFRR's is `next`: the carried limits run on, whether a kind is on or off
 unfoldable pub grownIn : PlantState → Record → MfrrState → PlantState
-grownIn st x next =
-    record { seconds = st .seconds + 1; fcr = fcrStepIn st x .state; afrr = afrrStepIn st x .state; mfrr = next }
+grownIn st x next = nextWith st (fcrStepIn st x .state) (afrrStepIn st x .state) next
 
 -- "State unchanged, no row"
 abbrev pub refusedIn : PlantState → ℕ → PlantStep
