@@ -15,7 +15,7 @@ use Rattle.book.specs.declared.Book.{Book}
 use Rattle.book.specs.declared.BookStep.{BookStep}
 use Rattle.book.specs.declared.BookAnswer.the-variants.{Rows}
 use Rattle.book.specs.Seconds.{BookSecond, History, unitBytes, aBytes, bBytes, pastOf, dueOf}
-use Rattle.book.specs.Rows.{unitRowAt, aRowAt, bRowAt, unitPoint, valuesOf, soldByA, soldByB, formNumber, unitNumber, aNumber, bNumber, numberAt, answerBy, answerAt, grownBy, grown}
+use Rattle.book.specs.Rows.{unitRowAt, aRowAt, bRowAt, unitPoint, valuesOf, soldByA, soldByB, formNumber, unitNumber, aNumber, bNumber, numberAt, answerBy, answerAt, bookFigures, saidBy, saidAt, says, numberIn, grownBy, grown}
 use Rattle.book.specs.State.{actualsOf, openOf, sumsWith, fresh, stepIn}
 use Rattle.book.specs.Run.{after, ThreeRows, withRows, rows, accepted, sumOf, sumA, sumB, sumOpen, sumDue}
 use Rattle.book.specs.Claim.{AtSecond, EachSecond, Claim}
@@ -175,13 +175,37 @@ rows-answer : (k : Book) (h : History) (f : Follows k h) (s : BookSecond) → Ta
 unfolding answerAt
 rows-answer k h f s t = rw (t .form-number, t .unit-number, t .a-number, t .b-number)
 
+said-by : (nf nu na nb : ℕ) (u a b : Row) → says (answerBy nf nu na nb u a b) ≡ saidBy nf nu na nb (bookFigures u a b)
+said-by (suc n) nu na nb u a b = refl
+said-by zero (suc n) na nb u a b = refl
+said-by zero zero (suc n) nb u a b = refl
+said-by zero zero zero (suc n) u a b = refl
+said-by zero zero zero zero u a b = refl
+
+number-by : (nf nu na nb : ℕ) (u a b : Row) → numberIn (answerBy nf nu na nb u a b) ≡ orElse nf (orElse nu (orElse na nb))
+number-by (suc n) nu na nb u a b = refl
+number-by zero (suc n) na nb u a b = refl
+number-by zero zero (suc n) nb u a b = refl
+number-by zero zero zero (suc n) u a b = refl
+number-by zero zero zero zero u a b = refl
+
+says-is : (h : History) (s : BookSecond) → says (answerAt h s) ≡ saidAt h s
+unfolding answerAt
+says-is h s = said-by (formNumber s) (unitNumber h s) (aNumber h s) (bNumber h s) _ _ _
+
+number-is : (h : History) (s : BookSecond) → numberIn (answerAt h s) ≡ numberAt h s
+unfolding answerAt numberAt
+number-is h s = number-by (formNumber s) (unitNumber h s) (aNumber h s) (bNumber h s) _ _ _
+
 at-second : (k : Book) (h : History) (f : Follows k h) (s : BookSecond) → AtSecond k h s
 at-second k h f s =
     record {
       unit-past = f .unit;
       a-past = f .a;
       b-past = f .b;
-      answer = ⊎-elim (λ t. ap (λ (p : BookStep). p .answer) (t .step) ∙ sym (rows-answer k h f s t)) (λ t. ap (λ (p : BookStep). p .answer) (t .step)) j;
+      said = ap says over ∙ says-is h s;
+      number = ap numberIn over ∙ number-is h s;
+      answer = over;
       accepted-rows = λ e. ⊎-elim (λ t. ap (λ (p : BookStep). p .answer) (t .step)) (λ t. absurd (t .number e)) j;
       refused-same = λ q. ⊎-elim (λ t. absurd (q (t .number))) (λ t. ap (λ (p : BookStep). p .book) (t .step)) j;
       unit-rows = λ e. row-holds (pastOf unitBytes h) (f .unit-accepted) _ (record-number (pastOf unitBytes h) _ (taken e .unit-number)) (pos 0) (pos 0);
@@ -191,6 +215,9 @@ at-second k h f s =
   where
     j : Taken k h f s ⊎ Turned k h f s
     j = judged k h f s
+
+    over : stepIn k s .answer ≡ answerAt h s
+    over = ⊎-elim (λ t. ap (λ (p : BookStep). p .answer) (t .step) ∙ sym (rows-answer k h f s t)) (λ t. ap (λ (p : BookStep). p .answer) (t .step)) j
 
     taken : numberAt h s ≡ 0 → Taken k h f s
     taken e = ⊎-elim (λ t. t) (λ t. absurd (t .number e)) j

@@ -14,7 +14,7 @@ use Rattle.plant.specs.Run.{RowHolds}
 use Rattle.book.specs.declared.Book.{Book}
 use Rattle.book.specs.declared.BookAnswer.the-variants.{Rows}
 use Rattle.book.specs.Seconds.{BookSecond, History, unitBytes, aBytes, bBytes, pastOf}
-use Rattle.book.specs.Rows.{valuesOf, soldByA, soldByB, unitPoint, unitRowAt, aRowAt, bRowAt, numberAt, answerAt, grown}
+use Rattle.book.specs.Rows.{valuesOf, soldByA, soldByB, unitPoint, unitRowAt, aRowAt, bRowAt, numberAt, says, saidAt, numberIn, answerAt, grown}
 use Rattle.book.specs.State.{fresh, stepIn}
 use Rattle.book.specs.Run.{after, accepted, sumA, sumB, sumOpen, sumDue}
 
@@ -25,6 +25,8 @@ pub record AtSecond (k : Book) (h : History) (s : BookSecond) : Type 0 where
   pub a-past : k .a ≡ plant.stateOf (pastOf aBytes h)
   pub b-past : k .b ≡ plant.stateOf (pastOf bBytes h)
   -- the answer is the one over the past: with no number the rows, each that of the plant's own second over its own past
+  pub said : says (stepIn k s .answer) ≡ saidAt h s
+  pub number : numberIn (stepIn k s .answer) ≡ numberAt h s
   pub answer : stepIn k s .answer ≡ answerAt h s
   pub accepted-rows : numberAt h s ≡ 0 → stepIn k s .answer ≡ Rows (unitRowAt h s) (aRowAt h s) (bRowAt h s)
   -- a refused second leaves the book as it was

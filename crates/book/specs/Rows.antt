@@ -1,7 +1,7 @@
 -- A book second over the past: the rows of U, A and B, or the first refusal number that applies (01, "Book second").
 use Prim.Native.Nat.{ℕ, zero, suc}
 use mathlib.Core.Bool.{Bool, not, cond}
-use mathlib.Core.List.{List, [], _∷_}
+use mathlib.Core.List.{List, [], _∷_, _++_}
 use lib.Dec.{ltb}
 use lib.IntN.{ℤ, pos, _+ℤ_}
 use lib.ListN.{length}
@@ -13,6 +13,7 @@ use Rattle.row.specs.declared.Row.{Row}
 use Rattle.plant.specs.Rows as plant
 use Rattle.book.specs.declared.BookAnswer.{BookAnswer}
 use Rattle.book.specs.declared.BookAnswer.the-variants.{Rows, Refused, RefusedBy}
+use Rattle.book.specs.declared.Plant.{Plant}
 use Rattle.book.specs.declared.Plant.the-variants.{Unit, A, B}
 use Rattle.book.specs.Seconds.{BookSecond, History, bookSize, unitBytes, aBytes, bBytes, pastOf}
 
@@ -100,6 +101,41 @@ answerBy zero zero zero zero u a b = Rows u a b
 unfoldable pub answerAt : History → BookSecond → BookAnswer
 answerAt h s =
     answerBy (formNumber s) (unitNumber h s) (aNumber h s) (bNumber h s) (unitRowAt h s) (aRowAt h s) (bRowAt h s)
+
+-- ---- the answer in 01's terms
+
+-- "A book second's row is the rows of U, A and B": their figures; or a number that names no plant; or a number and the plant
+pub data Said : Type 0 where
+  figures : List ℤ → Said
+  refused : ℕ → Said
+  refusedBy : Plant → ℕ → Said
+
+abbrev pub bookFigures : Row → Row → Row → List ℤ
+bookFigures u a b = plant.figuresOf u ++ (plant.figuresOf a ++ plant.figuresOf b)
+
+-- what is said of second s after the past h
+abbrev pub saidBy : ℕ → ℕ → ℕ → ℕ → List ℤ → Said
+saidBy (suc n) nu na nb fs = refused (suc n)
+saidBy zero (suc n) na nb fs = refusedBy Unit (suc n)
+saidBy zero zero (suc n) nb fs = refusedBy A (suc n)
+saidBy zero zero zero (suc n) fs = refusedBy B (suc n)
+saidBy zero zero zero zero fs = figures fs
+
+abbrev pub saidAt : History → BookSecond → Said
+saidAt h s = saidBy (formNumber s) (unitNumber h s) (aNumber h s) (bNumber h s) (bookFigures (unitRowAt h s) (aRowAt h s) (bRowAt h s))
+
+-- what each case of the answer says, and its number, 0 with rows
+abbrev pub says : BookAnswer → Said
+says (Rows u a b) = figures (bookFigures u a b)
+says (Refused n) = refused n
+says (RefusedBy p n) = refusedBy p n
+
+abbrev pub numberIn : BookAnswer → ℕ
+numberIn (Rows u a b) = 0
+numberIn (Refused n) = n
+numberIn (RefusedBy p n) = n
+
+-- ---- the past
 
 -- the accepted seconds after this one: a refusal "changes none"
 abbrev pub grownBy : ℕ → BookSecond → History → History

@@ -21,7 +21,6 @@ use Rattle.plant.specs.Refusals.{mostPower}
 use Rattle.plant.specs.declared.PlantState.{PlantState}
 use Rattle.sharing.specs.Sizes.{SizedRow}
 use Rattle.book.specs.declared.Book.{Book}
-use Rattle.book.specs.declared.BookAnswer.{BookAnswer}
 use Rattle.book.specs.declared.BookAnswer.the-variants.{Rows, Refused, RefusedBy}
 use Rattle.book.specs.declared.BookStep.{BookStep}
 use Rattle.book.specs.declared.Plant.{Plant}
@@ -114,12 +113,6 @@ plantsIn k s =
 abbrev pub stepBy : ℕ → Book → BookStep → BookStep
 stepBy zero k given = given
 stepBy (suc n) k given = record { answer = Refused (suc n); book = k }
-
--- 01's number for an answer: 0 with rows; and the plant that it names
-abbrev pub numberIn : BookAnswer → ℕ
-numberIn (Rows u a b) = 0
-numberIn (Refused n) = n
-numberIn (RefusedBy p n) = n
 
 -- second s at the book k
 unfoldable pub stepIn : Book → BookSecond → BookStep

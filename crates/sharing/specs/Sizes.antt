@@ -17,7 +17,7 @@ mostPower = 60000000
 abbrev pub mostSetpoint : ℕ
 mostSetpoint = 1000000
 
--- a limit of a published band; FCR's reach 20,733,334
+-- a limit of a published band; FCR's reach 18,733,334
 abbrev pub mostLimit : ℕ
 mostLimit = 21000000
 
