@@ -7,6 +7,17 @@ use book::BookAnswer;
 ghost use Prim.Native.Nat.{_+_, _≤_};
 ghost use mathlib.Core.Path.{_≡_};
 ghost use lib.ListN.{length};
+ghost use Rattle.book.specs.State.{Ready};
+ghost use Rattle.block.specs.Places.{blockSize, perBlock};
+ghost use Rattle.report.specs.Text.{secondRoom, blockRoom};
+ghost use Rattle.report.specs.Running.{runOf, secondIn, secondsIn, secondsFrom, blockIn, Adds};
+
+// How a book is run: the form of its lines, and what its header gives.
+pub(crate) struct Plan {
+    pub form: Form,
+    pub owner: u8,
+    pub seconds: u32,
+}
 
 // All accepted so far, or the number of the refusal that ends the text.
 pub(crate) enum Verdict {
@@ -14,21 +25,26 @@ pub(crate) enum Verdict {
     Refused(u8),
 }
 
-// Where a run stands. `used` bytes of the buffer wait to be written.
+// Where a run stands: `used` bytes of the buffer wait to be written.
 pub(crate) struct Run {
     pub book: Book,
     pub used: usize,
     pub verdict: Verdict,
 }
 
-pub(crate) fn is_accepted(v: Verdict) -> bool {
-    match v {
-        Verdict::Accepted => true,
-        Verdict::Refused(_) => false,
+pub(crate) fn accepted(book: Book, used: usize) -> Run
+    ensures { λ r. ⌜ r ≡ runOf book used Verdict.Accepted ⌝ }
+{
+    Run {
+        book,
+        used,
+        verdict: Verdict::Accepted,
     }
 }
 
-pub(crate) fn refused(book: Book, used: usize, number: u8) -> Run {
+pub(crate) fn refused(book: Book, used: usize, number: u8) -> Run
+    ensures { λ r. ⌜ r ≡ runOf book used (Verdict.Refused number) ⌝ }
+{
     Run {
         book,
         used,
@@ -37,36 +53,32 @@ pub(crate) fn refused(book: Book, used: usize, number: u8) -> Run {
 }
 
 // One book second: its lines, or its refusal.
-fn run_second(run: Run, form: Form, owner: u8, bytes: &[u8], out: &mut [u8]) -> Run {
-    let old = run.book;
-    let step = old.second(owner, bytes);
-    let book = step.book;
+fn run_second(book: Book, used: usize, plan: Plan, bytes: &[u8], out: &mut [u8]) -> Run
+    requires { ⌜ Ready book × (used + secondRoom ≤ length (now out)) ⌝ }
+    ensures { λ r. ⌜ Adds secondRoom (now (out .entry)) (now (out .exit)) used r (secondIn plan book (now (bytes .entry))) ⌝ }
+{
+    let form = plan.form;
+    let step = book.second(plan.owner, bytes);
+    let next = step.book;
     let answer = step.answer;
     match answer {
-        BookAnswer::Rows { unit, a, b } => Run {
-            book,
-            used: add_second(out, run.used, form, old.unit.seconds, unit, a, b),
-            verdict: Verdict::Accepted,
-        },
-        BookAnswer::Refused(number) => refused(book, run.used, number),
-        BookAnswer::RefusedBy { plant: _, number } => refused(book, run.used, number),
+        BookAnswer::Rows { unit, a, b } => accepted(next, add_second(out, used, form, book.unit.seconds, unit, a, b)),
+        BookAnswer::Refused(number) => refused(next, used, number),
+        BookAnswer::RefusedBy { plant: _, number } => refused(next, used, number),
     }
 }
 
 // The seconds of a block, until one is refused.
-fn run_seconds(
-    start: Run,
-    form: Form,
-    owner: u8,
-    block: &[u8],
-    count: usize,
-    out: &mut [u8],
-) -> Run {
-    let mut run = start;
+fn run_seconds(book: Book, used: usize, plan: Plan, block: &[u8], count: usize, out: &mut [u8]) -> Run
+    requires { ⌜ Ready book × (length (now block) ≡ blockSize) × (count ≤ perBlock) × (used + blockRoom ≤ length (now out)) ⌝ }
+    ensures { λ r. ⌜ Adds blockRoom (now (out .entry)) (now (out .exit)) used r (secondsIn plan book (secondsFrom (now (block .entry)) 0 count)) ⌝ }
+{
+    let mut run = accepted(book, used);
     let mut i: usize = 0;
     while i < count {
-        run = run_second(run, form, owner, block::second(block, i), out);
-        if !is_accepted(run.verdict) {
+        run = run_second(run.book, run.used, plan, block::second(block, i), out);
+        let verdict = run.verdict;
+        if let Verdict::Refused(_) = verdict {
             return run;
         }
         i += 1;
@@ -75,17 +87,12 @@ fn run_seconds(
 }
 
 // Block n as it was read: its seconds are run, or it is refused.
-pub(crate) fn run_block(
-    run: Run,
-    form: Form,
-    owner: u8,
-    seconds: u32,
-    n: u32,
-    block: &[u8],
-    out: &mut [u8],
-) -> Run {
-    match block::read_block(block, seconds, n) {
-        Block::Refused(number) => refused(run.book, run.used, number),
-        Block::Seconds(count) => run_seconds(run, form, owner, block, count, out),
+pub(crate) fn run_block(book: Book, used: usize, plan: Plan, n: u32, block: &[u8], out: &mut [u8]) -> Run
+    requires { ⌜ Ready book × (used + blockRoom ≤ length (now out)) ⌝ }
+    ensures { λ r. ⌜ Adds blockRoom (now (out .entry)) (now (out .exit)) used r (blockIn plan n book (now (block .entry))) ⌝ }
+{
+    match block::read_block(block, plan.seconds, n) {
+        Block::Refused(number) => refused(book, used, number),
+        Block::Seconds(count) => run_seconds(book, used, plan, block, count, out),
     }
 }
