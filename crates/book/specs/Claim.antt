@@ -29,14 +29,15 @@ pub record AtSecond (k : Book) (h : History) (s : BookSecond) : Type 0 where
   pub accepted-rows : numberAt h s ≡ 0 → stepIn k s .answer ≡ Rows (unitRowAt h s) (aRowAt h s) (bRowAt h s)
   -- a refused second leaves the book as it was
   pub refused-same : (numberAt h s ≡ 0 → ⊥) → stepIn k s .book ≡ k
-  -- wherever a kind is on, all kinds lie within their bands exactly when the error lies within the summed bands
-  pub unit-bands : numberAt h s ≡ 0 → RowHolds (pastOf unitBytes h) (recordOf (unitBytes (s .bytes))) (pos 0) (pos 0)
-  pub a-bands : numberAt h s ≡ 0 →
-    RowHolds (pastOf aBytes h) (recordOf (aBytes (s .bytes)))
-    (unitPoint (s .bytes) +ℤ valuesOf (soldByA (s .owner)) (unitRowAt h s)) (unitPoint (s .bytes))
-  pub b-bands : numberAt h s ≡ 0 →
-    RowHolds (pastOf bBytes h) (recordOf (bBytes (s .bytes)))
-    (unitPoint (s .bytes) +ℤ valuesOf (soldByB (s .owner)) (unitRowAt h s)) (unitPoint (s .bytes))
+  -- what holds of each plant's row: among it, "wherever a kind is on, all kinds lie within their bands exactly when the error lies within the
+  -- summed bands"
+  pub unit-rows : numberAt h s ≡ 0 → RowHolds (pastOf unitBytes h) (recordOf (unitBytes (s .bytes))) (pos 0) (pos 0)
+  pub a-rows : numberAt h s ≡ 0 →
+      RowHolds (pastOf aBytes h) (recordOf (aBytes (s .bytes)))
+      (unitPoint (s .bytes) +ℤ valuesOf (soldByA (s .owner)) (unitRowAt h s)) (unitPoint (s .bytes))
+  pub b-rows : numberAt h s ≡ 0 →
+      RowHolds (pastOf bBytes h) (recordOf (bBytes (s .bytes)))
+      (unitPoint (s .bytes) +ℤ valuesOf (soldByB (s .owner)) (unitRowAt h s)) (unitPoint (s .bytes))
 
 -- at every second of a list
 abbrev pub EachSecond : Book → History → List BookSecond → Type 0

@@ -5,7 +5,7 @@ use mathlib.Core.List.{List, [], _∷_}
 use lib.Dec.{ltb}
 use lib.IntN.{ℤ, pos, _+ℤ_}
 use lib.ListN.{length}
-use Rattle.numbers.specs.Rules.{refuse, first, differ, orElse}
+use Rattle.numbers.specs.Rules.{Rule, refuse, first, differ, orElse}
 use Rattle.record.specs.declared.KindBits.{KindBits}
 use Rattle.record.specs.Record.{recordOf, bitsOf}
 use Rattle.row.specs.declared.KindRow.{KindRow}
@@ -64,9 +64,16 @@ bRowAt h s =
 
 -- ---- refusals
 
+-- the largest owner byte
+abbrev pub mostOwner : ℕ
+mostOwner = 7
+
 -- "a book second not of 108, gets 12 before all else. The book second then gives 16 for an owner above 7; neither names a plant."
+abbrev pub formRules : BookSecond → List Rule
+formRules s = refuse 12 (differ (length (s .bytes)) bookSize) ∷ refuse 16 (ltb mostOwner (s .owner)) ∷ []
+
 unfoldable pub formNumber : BookSecond → ℕ
-formNumber s = first (refuse 12 (differ (length (s .bytes)) bookSize) ∷ refuse 16 (ltb 7 (s .owner)) ∷ [])
+formNumber s = first (formRules s)
 
 -- "Next it checks U, A, B wholly in that order"
 abbrev pub unitNumber : History → BookSecond → ℕ

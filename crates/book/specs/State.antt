@@ -160,9 +160,9 @@ mostAtPool = mostPower + mostAdded + 2 * mostPower
 abbrev pub mostValues : ℕ
 mostValues = 36000000
 
-pub record ValuesAre (b : KindBits) (r : Row) (v : ℤ) : Type 0 where
-  pub is : v ≡ valuesOf b r
-  pub small : Within mostValues v
+-- a power that is added to two others
+abbrev pub mostSummand : ℕ
+mostSummand = 100000000
 
 pub record Pooled (pool : PlantState) (point values : ℤ) : Type 0 where
   pub ready : plant.Ready pool

@@ -1,7 +1,9 @@
 // The book second (01, "Book second"): the unit first, then A, then B; and a whole lent list of book seconds.
+mod list;
 mod sums;
 mod unit;
 
+pub use list::run;
 use plant::PlantAnswer;
 use plant::PlantState;
 use plant::PlantStep;
@@ -163,7 +165,13 @@ impl Book {
                 unit: next_unit,
                 a: next_a,
                 b: next_b,
-                sums: with_second(old_sums, unit_row, a_row, b_row, due_of(unit_record, a_record, b_record)),
+                sums: with_second(
+                    old_sums,
+                    unit_row,
+                    a_row,
+                    b_row,
+                    due_of(unit_record, a_record, b_record),
+                ),
             },
         }
     }

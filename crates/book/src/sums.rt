@@ -6,30 +6,33 @@ use row::Sums;
 ghost use mathlib.Core.Path.{_≡_};
 ghost use lib.IntN.{_+ℤ_};
 ghost use Rattle.numbers.specs.Bounds.{Within};
+ghost use Rattle.plant.specs.Refusals.{mostSeconds};
 ghost use Rattle.sharing.specs.Sizes.{SizedRow};
 ghost use Rattle.book.specs.Seconds.{difference};
-ghost use Rattle.book.specs.State.{mostAtUnit, mostAtPool, mostInSecond, actualsOf, openOf, sumsWith, InRange, SumsReady, Summed};
+ghost use Rattle.book.specs.State.{mostSummand, mostAtUnit, mostAtPool, actualsOf, openOf, sumsWith, InRange, SumsReady, Summed};
+
+// The sum of three powers of a second.
+pub(crate) fn sum_of(x: Kw, y: Kw, z: Kw) -> Kw
+    requires { ⌜ Within mostSummand (x .0) × Within mostSummand (y .0) × Within mostSummand (z .0) ⌝ }
+    ensures { λ v. ⌜ v .0 ≡ x .0 +ℤ (y .0 +ℤ z .0) ⌝ }
+{
+    x.plus(y.plus(z))
+}
 
 // The actual values of all kinds in a pool's row.
 fn actuals_of(r: Row) -> Kw
     requires { ⌜ SizedRow mostAtPool r ⌝ }
-    ensures { λ v. ⌜ (v .0 ≡ actualsOf r) × Within mostInSecond (v .0) ⌝ }
+    ensures { λ v. ⌜ v .0 ≡ actualsOf r ⌝ }
 {
-    let fcr = r.fcr.actual;
-    let afrr = r.afrr.actual;
-    let mfrr = r.mfrr.actual;
-    fcr.plus(afrr.plus(mfrr))
+    sum_of(r.fcr.actual, r.afrr.actual, r.mfrr.actual)
 }
 
 // The open of every plant's row.
 fn open_of(u: Row, a: Row, b: Row) -> Kw
     requires { ⌜ SizedRow mostAtUnit u × SizedRow mostAtPool a × SizedRow mostAtPool b ⌝ }
-    ensures { λ v. ⌜ (v .0 ≡ openOf u a b) × Within mostInSecond (v .0) ⌝ }
+    ensures { λ v. ⌜ v .0 ≡ openOf u a b ⌝ }
 {
-    let unit = u.open;
-    let pool_a = a.open;
-    let pool_b = b.open;
-    unit.plus(pool_a.plus(pool_b))
+    sum_of(u.open, a.open, b.open)
 }
 
 // Measured - working point of a record.
@@ -45,15 +48,14 @@ fn difference(x: Record) -> Kw
 // What is due in a second, from the three records.
 pub(crate) fn due_of(u: Record, a: Record, b: Record) -> Kw
     requires { ⌜ InRange u × InRange a × InRange b ⌝ }
-    ensures { λ v. ⌜ (v .0 ≡ difference u +ℤ (difference a +ℤ difference b)) × Within mostInSecond (v .0) ⌝ }
+    ensures { λ v. ⌜ v .0 ≡ difference u +ℤ (difference a +ℤ difference b) ⌝ }
 {
-    let pools = difference(a).plus(difference(b));
-    difference(u).plus(pools)
+    sum_of(difference(u), difference(a), difference(b))
 }
 
 // The sums with a second more.
 pub(crate) fn with_second(sums: Sums, u: Row, a: Row, b: Row, due: Kw) -> Sums
-    requires { ⌜ SumsReady 90000 sums × Summed u a b (due .0) ⌝ }
+    requires { ⌜ SumsReady mostSeconds sums × Summed u a b (due .0) ⌝ }
     ensures { λ r. ⌜ r ≡ sumsWith sums u a b (due .0) ⌝ }
 {
     let sum_a = sums.a;

@@ -1,12 +1,13 @@
 // Who sells what at the unit, and the values there.
+use crate::sums::sum_of;
 use power::Kw;
 use record::KindBits;
 use row::KindRow;
 use row::Row;
 ghost use mathlib.Core.Path.{_≡_};
-ghost use Rattle.book.specs.Rows.{valueIf, others};
+ghost use Rattle.book.specs.Rows.{valueIf, valuesOf, others};
 ghost use Rattle.sharing.specs.Sizes.{SizedRow};
-ghost use Rattle.book.specs.State.{mostAtUnit, ValuesAre};
+ghost use Rattle.book.specs.State.{mostAtUnit};
 
 // The kinds whose bits are not set.
 pub(crate) fn others(b: KindBits) -> KindBits
@@ -28,10 +29,11 @@ fn value_if(sold: bool, k: KindRow) -> Kw
 // The actual values at the unit of the kinds whose bits are set.
 pub(crate) fn values_of(b: KindBits, r: Row) -> Kw
     requires { ⌜ SizedRow mostAtUnit r ⌝ }
-    ensures { λ v. ⌜ ValuesAre b r (v .0) ⌝ }
+    ensures { λ v. ⌜ v .0 ≡ valuesOf b r ⌝ }
 {
-    let fcr = value_if(b.fcr, r.fcr);
-    let afrr = value_if(b.afrr, r.afrr);
-    let mfrr = value_if(b.mfrr, r.mfrr);
-    fcr.plus(afrr.plus(mfrr))
+    sum_of(
+        value_if(b.fcr, r.fcr),
+        value_if(b.afrr, r.afrr),
+        value_if(b.mfrr, r.mfrr),
+    )
 }

@@ -1,6 +1,6 @@
 -- What it says of a record that none of the numbers 1 to 7 applies. Assumes nothing.
 use mathlib.Core.Path.{_≡_, refl}
-use mathlib.Core.Bool.{false, _||_}
+use mathlib.Core.Bool.{false}
 use Prim.Native.Nat.{ℕ}
 use native.Mathlib.Omega.{arith}
 use borrow.Author.Tests.{leb-false, ltb-false}

@@ -1,18 +1,16 @@
 -- A plant second at the state that accepted seconds leave is the second over those seconds. Assumes nothing.
 use mathlib.Core.Path.{_≡_, refl, sym, ap, _∙_}
-use mathlib.Core.Bool.{Bool, true, false, cond}
-use mathlib.Core.List.{List, [], _∷_, _++_, map}
+use mathlib.Core.Bool.{Bool, true, false, not, cond}
+use mathlib.Core.List.{List, [], _∷_, _++_}
 use Prim.Native.Nat.{ℕ, zero, suc, _+_, _≤_}
 use native.Mathlib.Numerals.{add-one}
 use native.Mathlib.Omega.{arith}
 use lib.Dec.{eqb}
 use lib.IntN.{ℤ}
 use lib.ListN.{length, length-map}
-use Rattle.numbers.specs.Bounds.{Within}
-use Rattle.numbers.specs.Rules.{first, orElse}
+use Rattle.numbers.specs.Rules.{orElse}
 use Rattle.numbers.proofs.Rules.{numbered, first-append, neither}
 use Rattle.power.specs.Past.{Ranged}
-use Rattle.power.specs.Units.{kw}
 use Rattle.power.proofs.Past.{ranged-none, ranged-cons}
 use Rattle.record.specs.declared.Record.{Record}
 use Rattle.record.specs.declared.Reading.{Reading}
@@ -24,22 +22,18 @@ use Rattle.fcr.proofs.Claims as fcr-claims
 use Rattle.afrr.specs.State as afrr
 use Rattle.afrr.proofs.Claims as afrr-claims
 use Rattle.mfrr.specs.Signal as mfrr-signal
-use Rattle.mfrr.specs.Signal.{setpointAt}
-use Rattle.mfrr.specs.Band.{bandAt}
 use Rattle.mfrr.specs.Refusals as mfrr-refusals
 use Rattle.mfrr.specs.Refusals.{rulesAt, refusal}
 use Rattle.mfrr.specs.State as mfrr
 use Rattle.mfrr.specs.declared.MfrrAnswer.the-variants.{Given}
 use Rattle.mfrr.specs.declared.MfrrStep.{MfrrStep}
 use Rattle.mfrr.proofs.Claims as mfrr-claims
-use Rattle.plant.specs.declared.Kinds.{Kinds}
 use Rattle.plant.specs.declared.PlantStep.{PlantStep}
 use Rattle.plant.specs.Seconds.{History, fcrSetpoint, fcrPast, afrrSecond, afrrPast, mfrrSecond, mfrrPast}
 use Rattle.plant.specs.Refusals.{mostSeconds, recordRules, recordNumber}
 use Rattle.plant.specs.Ranges.{Passed}
-use Rattle.plant.specs.Rows.{mfrrAt, kindsAt, offRules, offNumber, recordNumberAt, numberBy, numberAt, rowBy, rowAt, answerBy, answerAt, grownBy, grown, stateOf}
-use Rattle.plant.specs.State.{kindsWith, kindsIn, grownIn, stepBy, givenIn, kindsStepIn, calledIn, recordStepIn, readIn, stepIn, Ready}
-use Rattle.plant.specs.Run.{Accepted, OverPast}
+use Rattle.plant.specs.Rows.{mfrrAt, kindsAt, offRules, offNumber, recordNumberAt, numberAt, Accepted, rowBy, rowAt, answerBy, answerAt, grownBy, grown, stateOf}
+use Rattle.plant.specs.State.{kindsWith, kindsIn, grownIn, stepBy, givenIn, kindsStepIn, callStepIn, recordStepIn, readIn, stepIn, Ready}
 use Rattle.plant.proofs.Passed.{passed}
 
 -- ---- the number of a record is that of its three groups of rules
@@ -160,8 +154,8 @@ module _ (h : History) (a : Accepted h) (x : Record) (m w : ℤ) where
       ap (λ (n : ℕ). mfrr.stepIn (mfrr.stateOf (mfrrPast h)) n (mfrrSecond x)) (sym (length-map h mfrrSecond))
       ∙ mfrr-claims.claims .follows (mfrrPast h) (mfrr-accepted h a) (mfrrSecond x)
 
-  by-call : calledIn (stateOf h) x m w ≡ outcome (orElse (callNumber h x) (offNumber (kindsAt h x)))
-  unfolding calledIn mfrr.stepOf mfrr.stepBy
+  by-call : callStepIn (stateOf h) x m w ≡ outcome (orElse (callNumber h x) (offNumber (kindsAt h x)))
+  unfolding callStepIn mfrr.stepOf mfrr.stepBy
   by-call =
       ap (λ (p : MfrrStep). givenIn (p .answer) (p .state) (stateOf h) x m w) mfrr-step ∙ go (callNumber h x)
     where
@@ -178,7 +172,7 @@ module _ (h : History) (a : Accepted h) (x : Record) (m w : ℤ) where
   unfolding recordStepIn stateOf
   over-record = rw (number-parts h x) (go (recordNumber (length h) x))
     where
-      go : (n : ℕ) → stepBy n (stateOf h) (calledIn (stateOf h) x m w) ≡ outcome (orElse n (orElse (callNumber h x) (offNumber (kindsAt h x))))
+      go : (n : ℕ) → stepBy n (stateOf h) (callStepIn (stateOf h) x m w) ≡ outcome (orElse n (orElse (callNumber h x) (offNumber (kindsAt h x))))
       go zero = by-call
       go (suc n) = refl
 
@@ -187,15 +181,15 @@ module _ (h : History) (a : Accepted h) (s : List ℕ) (m w : ℤ) where
   step-over = record { answer = answerAt h s m w; state = stateOf (grown h s) }
 
   pub over-bytes : stepIn (stateOf h) s m w ≡ step-over
-  unfolding stepIn answerAt grown numberAt readingOf
+  unfolding stepIn answerAt grown numberAt recordNumberAt readingOf
   over-bytes = go (eqb (length s) size)
     where
       read : Bool → Reading
       read t = cond t (reading.Fields (recordOf s)) (reading.Refused 12)
 
-      go :
-          (t : Bool) →
-          readIn (read t) (stateOf h) m w
-          ≡ record { answer = answerBy (numberBy (read t) h) (rowAt h (recordOf s) m w); state = stateOf (grownBy (numberBy (read t) h) (recordOf s) h) }
+      number : Bool → ℕ
+      number t = cond (not t) 12 (recordNumberAt h (recordOf s))
+
+      go : (t : Bool) → readIn (read t) (stateOf h) m w ≡ record { answer = answerBy (number t) (rowAt h (recordOf s) m w); state = stateOf (grownBy (number t) (recordOf s) h) }
       go true = over-record h a (recordOf s) m w
       go false = refl

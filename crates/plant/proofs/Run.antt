@@ -1,24 +1,25 @@
 -- Every list of plant seconds from a fresh state, and every accepted second's row. Assumes nothing.
 use mathlib.Core.Path.{_≡_, refl, sym, ap, _∙_, subst}
-use mathlib.Core.Bool.{Bool, true, false, cond}
-use mathlib.Core.List.{List, [], _∷_}
-use Prim.Native.Nat.{ℕ, zero, suc, _*_}
+use mathlib.Core.Bool.{Bool, true, false, not, cond}
+use mathlib.Core.List.{List, [], _∷_, _++_}
+use Prim.Native.Nat.{ℕ, zero, suc, _*_, _-_, _^_}
 use native.Mathlib.Omega.{arith}
 use lib.Dec.{T, leb, eqb}
 use lib.IntN.{ℤ}
 use lib.ListN.{length}
 use Rattle.numbers.specs.Bounds.{Within}
-use Rattle.numbers.proofs.Fit.{within-le}
+use mir.Syntax.{w32}
+use mir.Val.{SFits, hbits}
+use Rattle.numbers.proofs.Fit.{within-le, fits-by}
 use Rattle.power.specs.declared.limits.Limits.{Limits}
 use Rattle.power.specs.Units.{perKw}
 use Rattle.power.specs.Inward.{publishedOf}
 use Rattle.power.proofs.Inside.{upper-within, lower-within}
 use Rattle.record.specs.declared.Record.{Record}
-use Rattle.record.specs.declared.Reading.the-variants as reading
-use Rattle.record.specs.Record.{size, recordOf, readingOf}
+use Rattle.record.specs.Record.{size, recordOf}
+use Rattle.row.specs.declared.KindRow.{KindRow}
 use Rattle.row.specs.declared.Row.{Row}
 use Rattle.sharing.specs.Claims.{AllPublished}
-use Rattle.sharing.specs.Rows.{three}
 use Rattle.sharing.specs.Sizes as sharing
 use Rattle.sharing.proofs.Rows.{row-shared}
 use Rattle.sharing.proofs.Sizes.{less, more, sized}
@@ -33,19 +34,19 @@ use Rattle.plant.specs.declared.PlantAnswer.{PlantAnswer}
 use Rattle.plant.specs.declared.PlantStep.{PlantStep}
 use Rattle.plant.specs.Seconds.{History, fcrSetpoint, fcrPast, afrrSecond, afrrPast, mfrrSecond, mfrrPast}
 use Rattle.plant.specs.Refusals.{mostPower}
-use Rattle.plant.specs.Rows.{kindsAt, recordNumberAt, numberBy, numberAt, rowAt, numberIn, answerBy, answerAt, sharedDifference, grownBy, grown, stateOf}
+use Rattle.plant.specs.Rows.{kindsAt, recordNumberAt, numberAt, Accepted, rowAt, numberIn, says, saidBy, answerBy, answerAt, sharedDifference, kindFigures, figuresOf, grownBy, grown, stateOf, OverPast}
 use Rattle.plant.specs.State.{mostAdded, Added, stepIn, Ready}
-use Rattle.plant.specs.Run.{Accepted, PlantSecond, stepOf, after, answers, accepted, answersOver, kindList, EveryList, OverPast, RowHolds}
+use Rattle.plant.specs.Run.{PlantSecond, after, answers, accepted, answersOver, kindList, EveryList, AllFit, RowHolds, Claims}
 use Rattle.plant.proofs.Past.{Clear, clear, ready, fcr-ranged, afrr-second-fair, afrr-fair, mfrr-accepted, over-bytes}
 
 -- ---- one second
 
 -- with no number there is a record, and none applies to it
 pub record-number : (h : History) (s : List ℕ) → numberAt h s ≡ 0 → recordNumberAt h (recordOf s) ≡ 0
-unfolding numberAt readingOf
+unfolding numberAt recordNumberAt
 record-number h s e = go (eqb (length s) size) e
   where
-    go : (t : Bool) → numberBy (cond t (reading.Fields (recordOf s)) (reading.Refused 12)) h ≡ 0 → recordNumberAt h (recordOf s) ≡ 0
+    go : (t : Bool) → cond (not t) 12 (recordNumberAt h (recordOf s)) ≡ 0 → recordNumberAt h (recordOf s) ≡ 0
     go true e = e
     go false e = absurd (omega arith)
 
@@ -61,11 +62,16 @@ number-by : (n : ℕ) (r : Row) → numberIn (answerBy n r) ≡ n
 number-by zero r = refl
 number-by (suc n) r = refl
 
-pub over-past : (h : History) (a : Accepted h) (s : List ℕ) (m w : ℤ) → OverPast h s m w
+said-by : (n : ℕ) (r : Row) → says (answerBy n r) ≡ saidBy n (figuresOf r)
+said-by zero r = refl
+said-by (suc n) r = refl
+
+pub over-past : (h : History) (a : Accepted h) (s : List ℕ) (m w : ℤ) → OverPast h s m w (stepIn (stateOf h) s m w)
 unfolding answerAt
 over-past h a s m w =
     let o = over-bytes h a s m w in
     record {
+      said = ap (λ (p : PlantStep). says (p .answer)) o ∙ said-by (numberAt h s) _;
       number = ap (λ (p : PlantStep). numberIn (p .answer)) o ∙ number-by (numberAt h s) _;
       answer = ap (λ (p : PlantStep). p .answer) o;
       state = ap (λ (p : PlantStep). p .state) o;
@@ -94,11 +100,11 @@ module _ where
   all-accepted [] h a = a
   all-accepted (s ∷ ss) h a = all-accepted ss (grown h (s .bytes)) (still-accepted h a (s .bytes))
 
-also-accepted : (h : History) (x : Record) → recordNumberAt h x ≡ 0 → Accepted h → Accepted (x ∷ h)
+pub also-accepted : (h : History) (x : Record) → recordNumberAt h x ≡ 0 → Accepted h → Accepted (x ∷ h)
 unfolding Accepted
 also-accepted h x e a = (e, a)
 
-none-accepted : Accepted []
+pub none-accepted : Accepted []
 unfolding Accepted
 none-accepted = tt
 
@@ -113,6 +119,21 @@ every-list ss =
     }
 
 -- ---- an accepted second's row
+
+-- a row that is small enough fits
+figures-fit : (r : Row) → sharing.SizedRow (2 * sharing.mostPower) r → AllFit (figuresOf r)
+figures-fit r h =
+    let o : List ℤ = r .«open» .0 ∷ [] in
+    kind (r .fcr) (h .fcr) (kindFigures (r .afrr) ++ (kindFigures (r .mfrr) ++ o))
+    (kind (r .afrr) (h .afrr) (kindFigures (r .mfrr) ++ o)
+    (kind (r .mfrr) (h .mfrr) o
+    (small _ _ (h .open-within) tt, tt)))
+  where
+    small : (B : ℕ) (z : ℤ) → Within B z → T (leb B (2 ^ hbits w32 - 1)) → SFits w32 z
+    small B z h t = fits-by w32 z (within-le B (2 ^ hbits w32 - 1) z h t)
+
+    kind : (k : KindRow) → sharing.SizedKindRow (2 * sharing.mostPower) k → (zs : List ℤ) → AllFit zs → AllFit (kindFigures k ++ zs)
+    kind k h zs f = (small _ _ (h .setpoint) tt, (small _ _ (h .low) tt, (small _ _ (h .high) tt, (small _ _ (h .share) tt, (small _ _ (h .actual) tt, f)))))
 
 module _ (h : History) (a : Accepted h) (x : Record) (accepted-x : recordNumberAt h x ≡ 0) where
   cleared : Clear h x
@@ -161,10 +182,22 @@ module _ (h : History) (a : Accepted h) (x : Record) (accepted-x : recordNumberA
   unfolding rowAt
   row-holds m w =
       let k = kindsAt h x in
+      let small : Added m w → sharing.SizedRow (2 * sharing.mostPower) (rowAt h x m w) = λ d. sized (2 * sharing.mostPower) (sharedDifference x m w) (k .fcr) (k .afrr) (k .mfrr) (difference-sized m w d) kinds-sized in
       let r = row-shared (sharedDifference x m w) (k .fcr) (k .afrr) (k .mfrr) in
       record {
         balance = r .balance;
         whole = r .whole;
         within = r .within all-published;
-        sized = λ d. sized (2 * sharing.mostPower) (sharedDifference x m w) (k .fcr) (k .afrr) (k .mfrr) (difference-sized m w d) kinds-sized;
+        sized = small;
+        fits = λ d. figures-fit (rowAt h x m w) (small d);
       }
+
+-- ---- all of it
+
+pub claims : Claims
+claims =
+    record {
+      every-list = every-list;
+      over-past = λ h a s m w. over-past h a s m w;
+      row-holds = λ h a x e m w. row-holds h a x e m w;
+    }

@@ -5,7 +5,6 @@ use lib.IntN.{ℤ, _+ℤ_}
 use Rattle.numbers.specs.Bounds.{Within}
 use Rattle.power.specs.declared.kilowatts.Kw.{Kw}
 use Rattle.record.specs.declared.Record.{Record}
-use Rattle.row.specs.declared.Row.{Row}
 use Rattle.sharing.specs.Sizes as sharing
 use Rattle.sharing.proofs.Sizes.{more}
 use Rattle.plant.specs.declared.Kinds.{Kinds}

@@ -7,7 +7,6 @@ use native.Mathlib.Omega.{arith}
 use lib.Dec.{eqb}
 use lib.IntN.{ℤ}
 use lib.ListN.{length}
-use Rattle.numbers.specs.Bounds.{Within}
 use Rattle.numbers.proofs.Fit.{within-le}
 use Rattle.power.specs.declared.kilowatts.Kw.{Kw}
 use Rattle.power.specs.Units.{kw}
@@ -15,7 +14,7 @@ use Rattle.power.specs.declared.limits.Band.{Band}
 use Rattle.record.specs.declared.Record.{Record}
 use Rattle.record.specs.declared.Reading.{Reading}
 use Rattle.record.specs.declared.Reading.the-variants as reading
-use Rattle.record.specs.Record.{size, recordOf, readingOf}
+use Rattle.record.specs.Record.{size, recordOf, readingOf, numberIn as reading-number}
 use Rattle.row.specs.declared.Row.{Row}
 use Rattle.sharing.specs.declared.kinds.Kind.{Kind}
 use Rattle.sharing.specs.Sizes as sharing
@@ -28,6 +27,7 @@ use Rattle.afrr.specs.declared.AfrrStep.{AfrrStep}
 use Rattle.afrr.specs.State as afrr
 use Rattle.mfrr.specs.declared.MfrrState.{MfrrState}
 use Rattle.mfrr.specs.declared.MfrrStep.{MfrrStep}
+use Rattle.mfrr.specs.declared.MfrrAnswer.{MfrrAnswer}
 use Rattle.mfrr.specs.declared.MfrrAnswer.the-variants as mfrr-answer
 use Rattle.mfrr.specs.Signal as mfrr-signal
 use Rattle.mfrr.specs.State as mfrr
@@ -35,11 +35,12 @@ use Rattle.plant.specs.declared.Kinds.{Kinds}
 use Rattle.plant.specs.declared.PlantAnswer.the-variants as answer
 use Rattle.plant.specs.declared.PlantState.{PlantState}
 use Rattle.plant.specs.declared.PlantStep.{PlantStep}
-use Rattle.plant.specs.Seconds.{fcrSetpoint, afrrSecond, mfrrSecond}
+use Rattle.plant.specs.Seconds.{afrrSecond, mfrrSecond}
 use Rattle.plant.specs.Refusals.{recordNumber}
 use Rattle.plant.specs.Rows.{offNumber, rowBy, sharedDifference}
-use Rattle.plant.specs.State.{fcrStepIn, afrrStepIn, kindsWith, kindsIn, grownIn, refusedIn, stepBy, kindsStepIn, mfrrKind, calledIn, recordStepIn, stepIn, Ready, Added, Shareable, Given, StepFacts, Called, CalledIs, Going, KindsStepped, Stepped}
+use Rattle.plant.specs.State.{fcrStepIn, mfrrStepIn, kindsWith, kindsIn, grownIn, refusedIn, stepBy, kindsStepIn, mfrrKind, givenIn, callStepIn, recordStepIn, readIn, stepIn, Ready, Added, Shareable, Given, StepFacts, RecordPassed, CallStepped, CallPassed, KindsStepped, Stepped}
 use Rattle.plant.proofs.Passed.{passed}
+use Rattle.plant.proofs.Run.{over-past}
 
 -- ---- by a number
 
@@ -59,7 +60,7 @@ refused-facts st n x m w r = record { ready = r; given = λ e. absurd (never e) 
 
 -- ---- with what mFRR gave
 
-module _ (st : PlantState) (x : Record) (k : Kind) (next : MfrrState) (m w : ℤ) (going : Going st x k next m w) where
+module _ (st : PlantState) (x : Record) (k : Kind) (next : MfrrState) (m w : ℤ) (call-passed : CallPassed st x k next m w) where
   module _
       (s : Kw) (f : FcrStep) (a : AfrrStep) (ks : Kinds)
       (es : s .0 ≡ setpointOf (x .«fcr_held» .0) (x .deviation .0))
@@ -77,13 +78,13 @@ module _ (st : PlantState) (x : Record) (k : Kind) (next : MfrrState) (m w : ℤ
     refused n e h =
         record {
           is = rw (← kinds-is, ← e) (by-refusal n st _ h);
-          facts = refused-facts st n x m w (going .called .ready);
+          facts = refused-facts st n x m w (call-passed .record-passed .ready);
         }
 
     pub shareable : Shareable x ks m w
     unfolding kindsWith
     shareable =
-        let p = going .called .passed in
+        let p = call-passed .record-passed .passed in
         record {
           measured = p .measured;
           working-point = p .working-point;
@@ -102,9 +103,9 @@ module _ (st : PlantState) (x : Record) (k : Kind) (next : MfrrState) (m w : ℤ
                       low = within-le afrr.limitMost sharing.mostLimit _ (ea .small .0) tt;
                       high = within-le afrr.limitMost sharing.mostLimit _ (ea .small .1) tt;
                     };
-                mfrr = going .sized;
+                mfrr = call-passed .sized;
               });
-          added = going .called .added;
+          added = call-passed .record-passed .added;
         }
 
     module _ (r : Row) (er : r ≡ rowBy x ks m w) where
@@ -140,10 +141,10 @@ module _ (st : PlantState) (x : Record) (k : Kind) (next : MfrrState) (m w : ℤ
                 record {
                   ready =
                       record {
-                        count = omega (arith, going .called .passed .seconds);
+                        count = omega (arith, call-passed .record-passed .passed .seconds);
                         fcr = ef .ready;
                         afrr = ea .ready;
-                        mfrr = going .next-ready;
+                        mfrr = call-passed .next-ready;
                       };
                   given = λ {q} e. subst (Given x m w) (same q e) row-given;
                 };
@@ -154,18 +155,18 @@ module _ (st : PlantState) (x : Record) (k : Kind) (next : MfrrState) (m w : ℤ
 
 -- ---- mFRR's answer
 
-module _ (st : PlantState) (x : Record) (m w : ℤ) (called : Called st x m w) (p : MfrrStep) (ep : mfrr.Stepped (st .mfrr) (st .seconds) (mfrrSecond x) p) where
-  pub call-refused : {n r : ℕ} → p .answer ≡ mfrr-answer.Refused n → r ≡ mfrr.numberIn (p .answer) → CalledIs st x m w (refusedIn st r)
-  unfolding calledIn
+module _ (st : PlantState) (x : Record) (m w : ℤ) (record-passed : RecordPassed st x m w) (p : MfrrStep) (ep : mfrr.Stepped (st .mfrr) (st .seconds) (mfrrSecond x) p) where
+  pub call-refused : {n r : ℕ} → p .answer ≡ mfrr-answer.Refused n → r ≡ mfrr.numberIn (p .answer) → CallStepped st x m w (refusedIn st r)
+  unfolding callStepIn
   call-refused {n} {r} e h =
-      record { is = rw (← (ep .is), h, e); facts = refused-facts st r x m w (called .ready) }
+      record { is = rw (← (ep .is), h, e); facts = refused-facts st r x m w (record-passed .ready) }
 
   module _ {s : Kw} {b : Band} (e : p .answer ≡ mfrr-answer.Given s b) {k : Kind} (ek : k ≡ mfrrKind x s b) where
-    pub going : Going st x k (p .state) m w
-    going =
+    pub call-passed : CallPassed st x k (p .state) m w
+    call-passed =
         let g = ep .given e in
         record {
-          called = called;
+          record-passed = record-passed;
           next-ready = ep .ready;
           sized =
               rw ek
@@ -176,9 +177,50 @@ module _ (st : PlantState) (x : Record) (m w : ℤ) (called : Called st x m w) (
               });
         }
 
-    pub call-given : (r : PlantStep) → KindsStepped st x k (p .state) m w r → CalledIs st x m w r
-    unfolding calledIn
+    pub call-given : (r : PlantStep) → KindsStepped st x k (p .state) m w r → CallStepped st x m w r
+    unfolding callStepIn
     call-given r q = record { is = q .is ∙ rw (← (ep .is), e, ek); facts = q .facts }
+
+-- ---- a refusal keeps the state, from whatever state
+
+abbrev Keeps : PlantState → PlantStep → Type 0
+Keeps st p = (n : ℕ) → p .answer ≡ answer.Refused n → p .state ≡ st
+
+keeps-by : (n : ℕ) (st : PlantState) (given : PlantStep) → Keeps st given → Keeps st (stepBy n st given)
+keeps-by zero st given k = k
+keeps-by (suc n) st given k = λ i e. refl
+
+row-keeps : (q : Row) (st next : PlantState) → Keeps st (record { answer = answer.Row q; state = next })
+row-keeps q st next n e = let z : _≡_ {A = ℕ} 0 1 = cc in absurd (omega arith)
+
+kinds-keep : (st : PlantState) (x : Record) (k : Kind) (next : MfrrState) (m w : ℤ) → Keeps st (kindsStepIn st x k next m w)
+unfolding kindsStepIn
+kinds-keep st x k next m w = keeps-by (offNumber (kindsIn st x k)) st _ (row-keeps _ st _)
+
+given-keeps : (a : MfrrAnswer) (next : MfrrState) (st : PlantState) (x : Record) (m w : ℤ) → Keeps st (givenIn a next st x m w)
+given-keeps (mfrr-answer.Given s b) next st x m w = kinds-keep st x (mfrrKind x s b) next m w
+given-keeps (mfrr-answer.Refused n) next st x m w = λ i e. refl
+
+read-keeps : (r : Reading) (st : PlantState) (m w : ℤ) → Keeps st (readIn r st m w)
+unfolding recordStepIn callStepIn
+read-keeps (reading.Fields x) st m w = keeps-by (recordNumber (st .seconds) x) st _ (given-keeps (mfrrStepIn st x .answer) (mfrrStepIn st x .state) st x m w)
+read-keeps (reading.Refused n) st m w = λ i e. refl
+
+-- ---- the contract, from what the step is and what it says of any state
+
+module _ (st : PlantState) (s : List ℕ) (m w : ℤ) where
+  kept : Keeps st (stepIn st s m w)
+  unfolding stepIn
+  kept = read-keeps (readingOf s) st m w
+
+  pub stepped : (r : PlantStep) → r ≡ stepIn st s m w → StepFacts (recordOf s) m w r → Stepped st s m w r
+  stepped r e f =
+      record {
+        is = e;
+        past = λ h a p. rw (e, p) (over-past h a s m w);
+        kept = subst (Keeps st) (sym e) kept;
+        facts = f;
+      }
 
 -- ---- the record of the bytes
 
@@ -190,20 +232,11 @@ fields-are s x e = go (eqb (length s) size) e
     go true e = cc
     go false e = let z : _≡_ {A = ℕ} 0 1 = cc in absurd (omega arith)
 
-refused-is : (s : List ℕ) (n : ℕ) → readingOf s ≡ reading.Refused n → n ≡ 12
-unfolding readingOf
-refused-is s n e = go (eqb (length s) size) e
-  where
-    go : (t : Bool) → cond t (reading.Fields (recordOf s)) (reading.Refused 12) ≡ reading.Refused n → n ≡ 12
-    go true e = let z : _≡_ {A = ℕ} 0 1 = cc in absurd (omega arith)
-    go false e = cc
-
 module _ (st : PlantState) (s : List ℕ) (m w : ℤ) (r : Reading) (er : r ≡ readingOf s) where
-  pub twelve : {n : ℕ} → r ≡ reading.Refused n → Ready st → Stepped st s m w (refusedIn st 12)
+  pub read-refused : {n : ℕ} (k : ℕ) → r ≡ reading.Refused n → k ≡ reading-number r → Ready st → Stepped st s m w (refusedIn st k)
   unfolding stepIn
-  twelve {n} e ready =
-      let n-is = refused-is s n (sym er ∙ e) in
-      record { is = rw (← er, e, n-is); facts = refused-facts st 12 (recordOf s) m w ready }
+  read-refused k e q ready =
+      stepped st s m w _ (rw (← er, q, e)) (refused-facts st k (recordOf s) m w ready)
 
   module _ {x : Record} (e : r ≡ reading.Fields x) where
     at-record : recordStepIn st x m w ≡ stepIn st s m w
@@ -216,19 +249,13 @@ module _ (st : PlantState) (s : List ℕ) (m w : ℤ) (r : Reading) (er : r ≡ 
     pub number-refused : (n : ℕ) → n ≡ recordNumber (st .seconds) x → (n ≡ 0 → ⊥) → Ready st → Stepped st s m w (refusedIn st n)
     unfolding recordStepIn
     number-refused n q h ready =
-        record {
-          is = rw q (by-refusal _ st _ (λ z. h (q ∙ z))) ∙ at-record;
-          facts = refused-facts st n (recordOf s) m w ready;
-        }
+        stepped st s m w _ (rw q (by-refusal _ st _ (λ z. h (q ∙ z))) ∙ at-record) (refused-facts st n (recordOf s) m w ready)
 
-    pub number-none : {n : ℕ} → n ≡ recordNumber (st .seconds) x → n ≡ 0 → Ready st → Added m w → Called st x m w
+    pub number-none : {n : ℕ} → n ≡ recordNumber (st .seconds) x → n ≡ 0 → Ready st → Added m w → RecordPassed st x m w
     number-none q z ready added =
         record { ready = ready; passed = passed (st .seconds) x (sym q ∙ z); added = added }
 
-    pub number-called : {n : ℕ} → n ≡ recordNumber (st .seconds) x → n ≡ 0 → (p : PlantStep) → CalledIs st x m w p → Stepped st s m w p
+    pub number-stepped : {n : ℕ} → n ≡ recordNumber (st .seconds) x → n ≡ 0 → (p : PlantStep) → CallStepped st x m w p → Stepped st s m w p
     unfolding recordStepIn
-    number-called q z p c =
-        record {
-          is = c .is ∙ by-none _ st _ (sym q ∙ z) ∙ at-record;
-          facts = subst (λ (y : Record). StepFacts y m w p) record-is (c .facts);
-        }
+    number-stepped q z p c =
+        stepped st s m w p (c .is ∙ by-none _ st _ (sym q ∙ z) ∙ at-record) (subst (λ (y : Record). StepFacts y m w p) record-is (c .facts))

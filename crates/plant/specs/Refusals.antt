@@ -8,8 +8,8 @@ use lib.Signed.{ltZ}
 use Rattle.numbers.specs.Rules.{Rule, refuse, first, differ}
 use Rattle.record.specs.declared.Record.{Record}
 
--- the seconds of the longest book; the largest held power and setpoint, and the largest measured power and working point, in kW; the largest
--- deviation in mHz; the largest status
+-- the seconds of the longest book; the largest held power and aFRR setpoint, and the largest measured power and working point, in kW; the
+-- largest deviation in mHz; the status with all three kinds on
 abbrev pub mostSeconds : ℕ
 mostSeconds = 90000
 
@@ -61,7 +61,7 @@ callFilled x = nonzero (x .«mfrr_target» .0) || differ (x .«delivery_end») 0
 unfoldable pub callOut : Record → Bool
 callOut x = ltb 1 (x .call) || (eqb (x .call) 0 && callFilled x)
 
--- 1 to 7, which look at the record x and the number t of the seconds accepted so far
+-- 1 to 7, which look at the record x and at t, the number of seconds accepted so far
 abbrev pub recordRules : ℕ → Record → List Rule
 recordRules t x =
     refuse 1 (leb mostSeconds t)

@@ -2,7 +2,7 @@
 use Prim.Native.Nat.{ℕ, zero, suc, _+_, _≤_}
 use mathlib.Core.Path.{_≡_}
 use mathlib.Core.List.{List}
-use lib.IntN.{ℤ, _+ℤ_, _-ℤ_}
+use lib.IntN.{ℤ}
 use Rattle.numbers.specs.Bounds.{Within}
 use Rattle.power.specs.declared.kilowatts.Kw.{Kw}
 use Rattle.power.specs.declared.limits.Band.{Band}
@@ -23,14 +23,13 @@ use Rattle.mfrr.specs.declared.MfrrAnswer.{MfrrAnswer}
 use Rattle.mfrr.specs.declared.MfrrAnswer.the-variants as mfrr-answer
 use Rattle.mfrr.specs.State as mfrr
 use Rattle.plant.specs.declared.Kinds.{Kinds}
-use Rattle.plant.specs.declared.PlantAnswer.{PlantAnswer}
 use Rattle.plant.specs.declared.PlantAnswer.the-variants as answer
 use Rattle.plant.specs.declared.PlantState.{PlantState}
 use Rattle.plant.specs.declared.PlantStep.{PlantStep}
-use Rattle.plant.specs.Seconds.{fcrSetpoint, afrrSecond, mfrrSecond}
+use Rattle.plant.specs.Seconds.{History, fcrSetpoint, afrrSecond, mfrrSecond}
 use Rattle.plant.specs.Refusals.{mostSeconds, mostPower, recordNumber}
 use Rattle.plant.specs.Ranges.{Passed}
-use Rattle.plant.specs.Rows.{offNumber, sharedDifference, rowBy}
+use Rattle.plant.specs.Rows.{offNumber, sharedDifference, rowBy, Accepted, stateOf, OverPast}
 
 -- what each kind's step gives for record x
 abbrev pub fcrStepIn : PlantState → Record → FcrStep
@@ -54,7 +53,7 @@ kindsWith x s fcr-band afrr-band mfrr =
 abbrev pub kindsIn : PlantState → Record → Kind → Kinds
 kindsIn st x mfrr = kindsWith x (fcrSetpoint x) (fcrStepIn st x .band) (afrrStepIn st x .band) mfrr
 
--- mFRR's, where it gives the setpoint s and the band b
+-- mFRR's, where its step gives the setpoint s and the band b
 abbrev pub mfrrKind : Record → Kw → Band → Kind
 mfrrKind x s b = record { on = bitsOf (x .status) .mfrr; setpoint = s; band = b }
 
@@ -67,12 +66,12 @@ grownIn st x next =
 abbrev pub refusedIn : PlantState → ℕ → PlantStep
 refusedIn st n = record { answer = answer.Refused n; state = st }
 
--- by its number, a second gives what is given or is refused
+-- `given` where no number applies, else the refusal
 abbrev pub stepBy : ℕ → PlantState → PlantStep → PlantStep
 stepBy zero st given = given
 stepBy (suc n) st given = refusedIn st (suc n)
 
--- the row m and w are added to, and the state after it
+-- no number: the row, and the state after it
 abbrev pub acceptedIn : PlantState → Record → Kinds → MfrrState → ℤ → ℤ → PlantStep
 acceptedIn st x k next m w = record { answer = answer.Row (rowBy x k m w); state = grownIn st x next }
 
@@ -85,12 +84,12 @@ abbrev pub givenIn : MfrrAnswer → MfrrState → PlantState → Record → ℤ 
 givenIn (mfrr-answer.Given s b) next st x m w = kindsStepIn st x (mfrrKind x s b) next m w
 givenIn (mfrr-answer.Refused n) next st x m w = refusedIn st n
 
-unfoldable pub calledIn : PlantState → Record → ℤ → ℤ → PlantStep
-calledIn st x m w = givenIn (mfrrStepIn st x .answer) (mfrrStepIn st x .state) st x m w
+unfoldable pub callStepIn : PlantState → Record → ℤ → ℤ → PlantStep
+callStepIn st x m w = givenIn (mfrrStepIn st x .answer) (mfrrStepIn st x .state) st x m w
 
 -- 1 to 7
 unfoldable pub recordStepIn : PlantState → Record → ℤ → ℤ → PlantStep
-recordStepIn st x m w = stepBy (recordNumber (st .seconds) x) st (calledIn st x m w)
+recordStepIn st x m w = stepBy (recordNumber (st .seconds) x) st (callStepIn st x m w)
 
 -- 12
 abbrev pub readIn : Reading → PlantState → ℤ → ℤ → PlantStep
@@ -103,16 +102,18 @@ stepIn st s m w = readIn (readingOf s) st m w
 
 -- ---- what a step asks and ensures
 
+-- what is asked of a state: every list of seconds leaves it so (`EveryList` of specs/Run.antt)
 pub record Ready (st : PlantState) : Type 0 where
   pub count : st .seconds ≤ mostSeconds
   pub fcr : fcr.Ready (st .fcr)
   pub afrr : afrr.Ready (st .afrr)
   pub mfrr : mfrr.Ready (st .mfrr)
 
--- the most that sharing adds to a pool's measured: the unit's working point and three of its actual values; and to a working point
+-- the most that sharing adds to a pool's measured, in kW: the unit's working point, and its actual values, each at most 12,000,000
 abbrev pub mostAdded : ℕ
 mostAdded = 40000000
 
+-- what sharing may add to measured, and to working point: the unit's
 pub record Added (m w : ℤ) : Type 0 where
   pub measured : Within mostAdded m
   pub working-point : Within mostPower w
@@ -136,19 +137,19 @@ pub record StepFacts (x : Record) (m w : ℤ) (r : PlantStep) : Type 0 where
   pub ready : Ready (r .state)
   pub given : {q : Row} → r .answer ≡ answer.Row q → Given x m w q
 
--- a record that its own numbers don't turn down
-pub record Called (st : PlantState) (x : Record) (m w : ℤ) : Type 0 where
+-- a record to which none of 1 to 7 applies
+pub record RecordPassed (st : PlantState) (x : Record) (m w : ℤ) : Type 0 where
   pub ready : Ready st
   pub passed : Passed (st .seconds) x
   pub added : Added m w
 
-pub record CalledIs (st : PlantState) (x : Record) (m w : ℤ) (r : PlantStep) : Type 0 where
-  pub is : r ≡ calledIn st x m w
+pub record CallStepped (st : PlantState) (x : Record) (m w : ℤ) (r : PlantStep) : Type 0 where
+  pub is : r ≡ callStepIn st x m w
   pub facts : StepFacts x m w r
 
--- and that mFRR takes
-pub record Going (st : PlantState) (x : Record) (k : Kind) (next : MfrrState) (m w : ℤ) : Type 0 where
-  pub called : Called st x m w
+-- and none of 8 to 10: mFRR gave the kind k and its next state
+pub record CallPassed (st : PlantState) (x : Record) (k : Kind) (next : MfrrState) (m w : ℤ) : Type 0 where
+  pub record-passed : RecordPassed st x m w
   pub next-ready : mfrr.Ready next
   pub sized : SizedKind k
 
@@ -156,7 +157,12 @@ pub record KindsStepped (st : PlantState) (x : Record) (k : Kind) (next : MfrrSt
   pub is : r ≡ kindsStepIn st x k next m w
   pub facts : StepFacts x m w r
 
+-- the plant second's contract, for every state that it may be given
 pub record Stepped (st : PlantState) (s : List ℕ) (m w : ℤ) (r : PlantStep) : Type 0 where
   pub is : r ≡ stepIn st s m w
-  -- of any state: what callers need to go on
+  -- where accepted seconds left the state: 01's figures or number over them, and the state that the longer list leaves
+  pub past : (h : History) → Accepted h → st ≡ stateOf h → OverPast h s m w r
+  -- "State unchanged"
+  pub kept : (n : ℕ) → r .answer ≡ answer.Refused n → r .state ≡ st
+  -- what callers need to go on
   pub facts : StepFacts (recordOf s) m w r

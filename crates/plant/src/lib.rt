@@ -18,7 +18,7 @@ ghost use mathlib.Core.Path.{_≡_};
 ghost use mathlib.Core.List.{[]};
 ghost use lib.IntN.{pos};
 ghost use Rattle.plant.specs.Seconds.{afrrSecond};
-ghost use Rattle.plant.specs.State.{kindsWith, refusedIn, Ready, Added, Shareable, Going, KindsStepped, Called, CalledIs, Stepped};
+ghost use Rattle.plant.specs.State.{kindsWith, refusedIn, Ready, Added, Shareable, CallPassed, KindsStepped, RecordPassed, CallStepped, Stepped};
 ghost use Rattle.plant.specs.Rows.{numberIn, rowBy, stateOf};
 
 // What a plant's second needs of those before it: how many were accepted, and each kind's state.
@@ -29,7 +29,7 @@ pub struct PlantState {
     pub mfrr: MfrrState,
 }
 
-// The row's numbers, or the refusal number.
+// The row's figures, or the refusal number.
 pub enum PlantAnswer {
     Row(Row),
     Refused(u8),
@@ -70,7 +70,7 @@ impl PlantState {
         }
     }
 
-    // The plant second by itself.
+    // The plant second of any bytes, where sharing adds nothing.
     pub fn second(self, bytes: &[u8]) -> PlantStep
         requires { ⌜ Ready self ⌝ }
         ensures { λ r. ⌜ Stepped self (now (bytes .entry)) (pos 0) (pos 0) r ⌝ }
@@ -78,20 +78,21 @@ impl PlantState {
         self.second_with(bytes, Kw(0), Kw(0))
     }
 
-    // The plant second where sharing adds to measured and working point: what the unit gives a pool.
+    // The plant second where sharing adds to measured and to working point, as the unit's values do to a pool's: the row, or the first refusal
+    // number that applies; and the state after it, the old one with a refusal.
     pub fn second_with(self, bytes: &[u8], measured: Kw, working_point: Kw) -> PlantStep
         requires { ⌜ Ready self × Added (measured .0) («working_point» .0) ⌝ }
         ensures { λ r. ⌜ Stepped self (now (bytes .entry)) (measured .0) («working_point» .0) r ⌝ }
     {
         let reading = record::read(bytes);
         let Reading::Fields(x) = reading else {
-            return self.refused(12);
+            return self.refused(record::number_in(reading));
         };
         let number = record_number(self.seconds, x);
         if number != 0 {
             return self.refused(number);
         }
-        self.called(x, measured, working_point)
+        self.call_step(x, measured, working_point)
     }
 
     fn refused(self, number: u8) -> PlantStep
@@ -103,10 +104,10 @@ impl PlantState {
         }
     }
 
-    // A record that its own numbers don't turn down: mFRR takes it next.
-    fn called(self, x: Record, measured: Kw, working_point: Kw) -> PlantStep
-        requires { ⌜ Called self x (measured .0) («working_point» .0) ⌝ }
-        ensures { λ r. ⌜ CalledIs self x (measured .0) («working_point» .0) r ⌝ }
+    // Where none of 1 to 7 applies: mFRR's step, which gives 8 to 10.
+    fn call_step(self, x: Record, measured: Kw, working_point: Kw) -> PlantStep
+        requires { ⌜ RecordPassed self x (measured .0) («working_point» .0) ⌝ }
+        ensures { λ r. ⌜ CallStepped self x (measured .0) («working_point» .0) r ⌝ }
     {
         let mfrr = self.mfrr;
         let step = mfrr.step(self.seconds, x.call == 1, x.mfrr_target, x.delivery_end);
@@ -121,11 +122,11 @@ impl PlantState {
             setpoint,
             band,
         };
-        self.with_mfrr(x, mfrr_kind, next, measured, working_point)
+        self.kinds_step(x, mfrr_kind, next, measured, working_point)
     }
 
-    // With what mFRR gave: the other kinds, the row, and the state after it; or 11.
-    fn with_mfrr(
+    // Where none of 8 to 10 applies, with what mFRR gave: the other kinds, then 11 or the row and the state after it.
+    fn kinds_step(
         self,
         x: Record,
         mfrr: Kind,
@@ -133,7 +134,7 @@ impl PlantState {
         measured: Kw,
         working_point: Kw,
     ) -> PlantStep
-        requires { ⌜ Going self x mfrr next (measured .0) («working_point» .0) ⌝ }
+        requires { ⌜ CallPassed self x mfrr next (measured .0) («working_point» .0) ⌝ }
         ensures { λ r. ⌜ KindsStepped self x mfrr next (measured .0) («working_point» .0) r ⌝ }
     {
         let held = x.fcr_held;
@@ -192,7 +193,7 @@ fn kinds_of(x: Record, fcr_setpoint: Kw, fcr_band: Band, afrr_band: Band, mfrr: 
     }
 }
 
-// The row, with what sharing adds.
+// The row, with what sharing adds to measured and to working point.
 fn row_with(x: Record, kinds: Kinds, measured: Kw, working_point: Kw) -> Row
     requires { ⌜ Shareable x kinds (measured .0) («working_point» .0) ⌝ }
     ensures { λ r. ⌜ r ≡ rowBy x kinds (measured .0) («working_point» .0) ⌝ }

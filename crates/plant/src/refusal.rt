@@ -1,4 +1,5 @@
-// When a plant second is turned down (01, "When a book is turned down"): the rules that look at its record and its number alone.
+// When a plant second is turned down (01, "When a book is turned down"): 1 to 7, by its record and the seconds accepted so far, and 11, by its
+// kinds. 12 is the record's, 8 to 10 are mFRR's.
 use crate::Kinds;
 use power::Kw;
 use power::Millihertz;
@@ -11,15 +12,16 @@ ghost use Rattle.plant.specs.Rows.{offMoves, offNumber};
 // The seconds of the longest book.
 const MOST_SECONDS: u32 = 90_000;
 
-// The largest held power and setpoint, and the largest measured power and working point, in kW.
+// The largest held power and aFRR setpoint, in kW.
 const MOST_HELD: i32 = 1_000_000;
 
+// The largest measured power and working point, in kW.
 const MOST_POWER: i32 = 4_000_000;
 
 // The largest deviation, in mHz.
 const MOST_DEVIATION: i32 = 5_000;
 
-// The kinds' bits.
+// All three kinds on.
 const MOST_STATUS: u8 = 7;
 
 fn is_outside(k: Kw, low: Kw, high: Kw) -> bool
@@ -31,7 +33,7 @@ fn is_outside(k: Kw, low: Kw, high: Kw) -> bool
     high.0 < k.0
 }
 
-pub(crate) fn is_nonzero(k: Kw) -> bool
+fn is_nonzero(k: Kw) -> bool
     ensures { λ r. ⌜ r ≡ nonzero (k .0) ⌝ }
 {
     is_outside(k, Kw(0), Kw(0))
@@ -96,7 +98,7 @@ fn is_call_out(x: Record) -> bool
     false
 }
 
-// The first of the numbers 1 to 7 that applies to the record `x` after `t` accepted seconds, or 0.
+// The first of 1 to 7 that applies to the record `x` after `t` accepted seconds, or 0.
 pub(crate) fn record_number(t: u32, x: Record) -> u8
     ensures { λ r. ⌜ r ≡ recordNumber t x ⌝ }
 {

@@ -36,7 +36,7 @@ recordOf s =
 unfoldable pub readingOf : List ℕ → Reading
 readingOf s = cond (eqb (length s) size) (Fields (recordOf s)) (Refused 12)
 
--- the number that an answer gives, 0 for fields
+-- the number that a reading gives, 0 with fields
 abbrev pub numberIn : Reading → ℕ
 numberIn (Fields x) = 0
 numberIn (Refused n) = n

@@ -5,7 +5,7 @@ ghost use mathlib.Core.Path.{_≡_};
 ghost use Prim.Native.Nat.{_+_, _≤_};
 ghost use lib.ListN.{length};
 ghost use Rattle.codec.specs.Little.{i32At};
-ghost use Rattle.record.specs.Record.{size, recordOf, readingOf, bitsOf};
+ghost use Rattle.record.specs.Record.{size, recordOf, readingOf, numberIn, bitsOf};
 
 // The bytes of a plant second.
 pub const SIZE: usize = 36;
@@ -73,6 +73,16 @@ pub fn read(s: &[u8]) -> Reading
         return Reading::Refused(12);
     }
     Reading::Fields(fields_of(s))
+}
+
+// The refusal number of a reading, 0 of fields.
+pub fn number_in(reading: Reading) -> u8
+    ensures { λ r. ⌜ r ≡ numberIn reading ⌝ }
+{
+    match reading {
+        Reading::Fields(_) => 0,
+        Reading::Refused(number) => number,
+    }
 }
 
 // Bit 0 is FCR's, 1 aFRR's, 2 mFRR's.

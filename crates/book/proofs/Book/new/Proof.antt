@@ -1,25 +1,36 @@
+-- `book::Book::new` meets its contract. Assumes nothing.
+use lib.IntN.{pos}
+use Rattle.book.specs.State.{kwSeconds, fresh}
+use Rattle.book.proofs.Sizes.{sums-none}
 use borrow.Author.Needs.{needs}
 use Rattle.book.proofs.Book.new.Statement.{statement}
 use Rattle.book.proofs.Book.new.Tie as tie
-use Rattle.book.proofs.Book.new.Reads as reads
-use Rattle.book.proofs.Book.new.Lts as lts
-use Rattle.plant.proofs.PlantState.new.Reads as new-reads
 
--- src/lib.rt:86:19
 new-requires : tie.Need-new-requires
 new-requires c κs = search needs
 
--- src/lib.rt:87:16
 new-requires-2 : tie.Need-new-requires-2
 new-requires-2 c κs = search needs
 
--- src/lib.rt:88:16
 new-requires-3 : tie.Need-new-requires-3
 new-requires-3 c κs = search needs
 
--- src/lib.rt:81:5
 returns : tie.Need-returns
-returns c = ?
+unfolding fresh
+returns c = (
+  λ i. record {
+    unit = c .before .before .new .ensures .0 i;
+    a = c .before .new2 .ensures .0 i;
+    b = c .new3 .ensures .0 i;
+    sums = record { a = kwSeconds (pos 0); b = kwSeconds (pos 0); «open» = kwSeconds (pos 0); due = kwSeconds (pos 0) };
+  },
+  record {
+    unit = c .before .before .new .ensures .1;
+    a = c .before .new2 .ensures .1;
+    b = c .new3 .ensures .1;
+    sums = sums-none _;
+  },
+)
 
 pub new-spec : {M : Type 1} → statement M
 new-spec = tie.close (tie.spec new-requires new-requires-2 new-requires-3 returns)

@@ -1,20 +1,17 @@
+-- `book::sums::actuals_of` meets its contract. Assumes nothing.
+use mathlib.Core.Path.{sym, ap, _∙_}
+use lib.IntN.{ℤ, _+ℤ_, +ℤ-idr}
+use borrow.Author.Needs.{needs}
 use Rattle.book.proofs.sums.actuals_of.Statement.{statement}
 use Rattle.book.proofs.sums.actuals_of.Tie as tie
-use Rattle.book.proofs.sums.actuals_of.Reads as reads
-use Rattle.book.proofs.sums.actuals_of.Lts as lts
-use Rattle.power.proofs.kilowatts.Kw.plus.Reads as plus-reads
 
--- src/sums.rt:22:14
-plus-requires : tie.Need-plus-requires
-plus-requires c κs = ?
+sum-of-requires : tie.Need-sum-of-requires
+sum-of-requires c κs = search needs
 
--- src/sums.rt:22:5
-plus-requires-2 : tie.Need-plus-requires-2
-plus-requires-2 c κs = ?
-
--- src/sums.rt:15:1
 returns : tie.Need-returns
-returns c = ?
+returns c =
+    let r = c .before .args .r in
+    c .sum-of .ensures ∙ ap (λ (z : ℤ). r .fcr .actual .0 +ℤ (r .afrr .actual .0 +ℤ z)) (sym (+ℤ-idr (r .mfrr .actual .0)))
 
 pub actuals-of-spec : {M : Type 1} → statement M
-actuals-of-spec = tie.close (tie.spec plus-requires plus-requires-2 returns)
+actuals-of-spec = tie.close (tie.spec sum-of-requires returns)

@@ -1,5 +1,5 @@
--- `plant::PlantState::with_mfrr` meets its contract. Assumes nothing.
-use mathlib.Core.Path.{_≡_, ap, _∙_, subst, sym}
+-- `plant::PlantState::kinds_step` meets its contract. Assumes nothing.
+use mathlib.Core.Path.{_∙_, subst, sym}
 use native.Mathlib.Omega.{arith}
 use Rattle.afrr.specs.State as afrr
 use Rattle.afrr.specs.declared.Second.{Second}
@@ -7,8 +7,8 @@ use Rattle.plant.specs.Seconds.{afrrSecond}
 use Rattle.plant.proofs.Past.{afrr-second-fair}
 use Rattle.plant.proofs.Steps.{refused, shareable, accepted}
 use borrow.Author.Needs.{needs}
-use Rattle.plant.proofs.PlantState.with_mfrr.Statement.{statement}
-use Rattle.plant.proofs.PlantState.with_mfrr.Tie as tie
+use Rattle.plant.proofs.PlantState.kinds_step.Statement.{statement}
+use Rattle.plant.proofs.PlantState.kinds_step.Tie as tie
 
 setpoint-requires : tie.Need-setpoint-requires
 setpoint-requires c κs = search needs
@@ -22,7 +22,7 @@ afrr-second-requires c κs = search needs
 step-requires-2 : tie.Need-step-requires-2
 step-requires-2 c κs =
     let s = c .before .before .before .before .before .before in
-    (s .pre .called .ready .afrr, rw (c .afrr-second .ensures) (afrr-second-fair (s .args .self .seconds) (s .args .x) (s .pre .called .passed)))
+    (s .pre .record-passed .ready .afrr, rw (c .afrr-second .ensures) (afrr-second-fair (s .args .self .seconds) (s .args .x) (s .pre .record-passed .passed)))
 
 kinds-of-requires : tie.Need-kinds-of-requires
 kinds-of-requires c κs = search needs
@@ -74,7 +74,7 @@ row-with-requires c κs =
     (l .kinds-of .ensures)
 
 add-t21 : tie.Need-add-t21
-add-t21 c = omega (arith, start (c .before .before .before .before .before .before) .pre .called .passed .seconds)
+add-t21 c = omega (arith, start (c .before .before .before .before .before .before) .pre .record-passed .passed .seconds)
 
 returns-2 : tie.Need-returns-2
 returns-2 c =
@@ -93,8 +93,8 @@ returns-2 c =
     (c .before .row-with .ensures)
     (sym (c .before .before .before .before .before .off-number .ensures) ∙ c .before .before .before .before .if1 .left)
 
-pub with-mfrr-spec : {M : Type 1} → statement M
-with-mfrr-spec =
+pub kinds-step-spec : {M : Type 1} → statement M
+kinds-step-spec =
     tie.close
     (tie.spec
     setpoint-requires

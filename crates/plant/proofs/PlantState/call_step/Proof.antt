@@ -1,10 +1,8 @@
--- `plant::PlantState::called` meets its contract. Assumes nothing.
-use mathlib.Core.Path.{_≡_}
-use Rattle.power.specs.declared.kilowatts.Kw.{Kw}
-use Rattle.plant.proofs.Steps.{call-refused, going, call-given}
+-- `plant::PlantState::call_step` meets its contract. Assumes nothing.
+use Rattle.plant.proofs.Steps.{call-refused, call-passed, call-given}
 use borrow.Author.Needs.{needs}
-use Rattle.plant.proofs.PlantState.called.Statement.{statement}
-use Rattle.plant.proofs.PlantState.called.Tie as tie
+use Rattle.plant.proofs.PlantState.call_step.Statement.{statement}
+use Rattle.plant.proofs.PlantState.call_step.Tie as tie
 
 step-requires : tie.Need-step-requires
 step-requires c κs = search needs
@@ -32,11 +30,11 @@ returns c =
 kind-bits-requires : tie.Need-kind-bits-requires
 kind-bits-requires c κs = search needs
 
-with-mfrr-requires : tie.Need-with-mfrr-requires
-with-mfrr-requires c κs =
+kinds-step-requires : tie.Need-kinds-step-requires
+kinds-step-requires c κs =
     let s = c .before .before .before .before .before in
     let g = s .before .before .before .args in
-    going (g .self) (g .x) (g .measured .0) (g .working-point .0) (s .before .before .before .pre) (s .step .result) (s .step .ensures)
+    call-passed (g .self) (g .x) (g .measured .0) (g .working-point .0) (s .before .before .before .pre) (s .step .result) (s .step .ensures)
     (c .before .before .answer .given .1) (rw (c .kind-bits .ensures))
 
 returns-2 : tie.Need-returns-2
@@ -44,10 +42,10 @@ returns-2 c =
     let s = c .before .before .before .before .before .before in
     let g = s .before .before .before .args in
     call-given (g .self) (g .x) (g .measured .0) (g .working-point .0) (s .before .before .before .pre) (s .step .result) (s .step .ensures)
-    (c .before .before .before .answer .given .1) (rw (c .before .kind-bits .ensures)) (c .with-mfrr .result) (c .with-mfrr .ensures)
+    (c .before .before .before .answer .given .1) (rw (c .before .kind-bits .ensures)) (c .kinds-step .result) (c .kinds-step .ensures)
 
-pub called-spec : {M : Type 1} → statement M
-called-spec =
+pub call-step-spec : {M : Type 1} → statement M
+call-step-spec =
     tie.close
     (tie.spec
     step-requires
@@ -57,5 +55,5 @@ called-spec =
     refused-requires
     returns
     kind-bits-requires
-    with-mfrr-requires
+    kinds-step-requires
     returns-2)

@@ -1,0 +1,224 @@
+-- Demand 3, about every list of book seconds. Assumes nothing.
+use mathlib.Core.Path.{_≡_, refl, sym, ap, _∙_}
+use mathlib.Core.Logic.{_⊎_, inl, inr, ⊎-elim}
+use mathlib.Core.List.{List, [], _∷_}
+use Prim.Native.Nat.{ℕ, zero, suc}
+use lib.IntN.{ℤ, pos, _+ℤ_, +ℤ-assoc, +ℤ-comm, +ℤ-idl, +ℤ-idr}
+use native.Mathlib.Omega.{arith}
+use Rattle.numbers.specs.Rules.{orElse}
+use Rattle.numbers.proofs.Parts.{shows, eq-up, eq-dn, add-nat}
+use Rattle.row.specs.declared.Row.{Row}
+use Rattle.row.specs.declared.sums.Sums.{Sums}
+use Rattle.record.specs.Record.{recordOf}
+use Rattle.plant.proofs.Run.{record-number, row-holds}
+use Rattle.book.specs.declared.Book.{Book}
+use Rattle.book.specs.declared.BookStep.{BookStep}
+use Rattle.book.specs.declared.BookAnswer.the-variants.{Rows}
+use Rattle.book.specs.Seconds.{BookSecond, History, unitBytes, aBytes, bBytes, pastOf, dueOf}
+use Rattle.book.specs.Rows.{unitRowAt, aRowAt, bRowAt, unitPoint, valuesOf, soldByA, soldByB, formNumber, unitNumber, aNumber, bNumber, numberAt, answerBy, answerAt, grownBy, grown}
+use Rattle.book.specs.State.{actualsOf, openOf, sumsWith, fresh, stepIn}
+use Rattle.book.specs.Run.{after, ThreeRows, withRows, rows, accepted, sumOf, sumA, sumB, sumOpen, sumDue}
+use Rattle.book.specs.Claim.{AtSecond, EachSecond, Claim}
+use Rattle.book.proofs.Past.{Follows, fresh-follows, next, Taken, Turned, judged, next-follows}
+use Rattle.book.proofs.Balance.{second-balance}
+
+-- ---- one second of a list
+
+abbrev due : BookSecond → ℤ
+due s = dueOf (s .bytes)
+
+abbrev three : History → BookSecond → ThreeRows
+three h s = record { unit = unitRowAt h s; a = aRowAt h s; b = bRowAt h s }
+
+grown-more : (h : History) (s : BookSecond) → numberAt h s ≡ 0 → grown h s ≡ s ∷ h
+unfolding grown
+grown-more h s e = rw e
+
+grown-same : (h : History) (s : BookSecond) → (numberAt h s ≡ 0 → ⊥) → grown h s ≡ h
+unfolding grown
+grown-same h s n = go (numberAt h s) n
+  where
+    go : (m : ℕ) → (m ≡ 0 → ⊥) → grownBy m s h ≡ h
+    go zero q = absurd (q refl)
+    go (suc m) q = refl
+
+-- a refusal has no rows
+by-numbers : (nf nu na nb : ℕ) (u a b : Row) (rs : List ThreeRows) → (orElse nf (orElse nu (orElse na nb)) ≡ 0 → ⊥) → withRows (answerBy nf nu na nb u a b) rs ≡ rs
+by-numbers (suc n) nu na nb u a b rs q = refl
+by-numbers zero (suc n) na nb u a b rs q = refl
+by-numbers zero zero (suc n) nb u a b rs q = refl
+by-numbers zero zero zero (suc n) u a b rs q = refl
+by-numbers zero zero zero zero u a b rs q = absurd (q refl)
+
+no-rows : (h : History) (s : BookSecond) (rs : List ThreeRows) → (numberAt h s ≡ 0 → ⊥) → withRows (answerAt h s) rs ≡ rs
+unfolding answerAt numberAt
+no-rows h s rs q = by-numbers (formNumber s) (unitNumber h s) (aNumber h s) (bNumber h s) _ _ _ rs q
+
+module _ (k : Book) (h : History) (f : Follows k h) (s : BookSecond) (ss : List BookSecond) where
+  -- what a taken second does to the book, the rows and the accepted seconds
+  pub record TakenOn : Type 0 where
+    pub after-is : after k (s ∷ ss) ≡ after (next k h f s) ss
+    pub rows-is : rows k (s ∷ ss) ≡ three h s ∷ rows (next k h f s) ss
+    pub accepted-is : accepted h (s ∷ ss) ≡ accepted (s ∷ h) ss
+
+  taken-on : Taken k h f s → TakenOn
+  unfolding after rows accepted
+  taken-on t =
+      record {
+        after-is = ap (λ (p : BookStep). after (p .book) ss) (t .step);
+        rows-is = ap (λ (p : BookStep). withRows (p .answer) (rows (p .book) ss)) (t .step);
+        accepted-is = ap (λ (l : History). accepted l ss) (grown-more h s (t .number));
+      }
+
+  pub record TurnedOn : Type 0 where
+    pub after-is : after k (s ∷ ss) ≡ after k ss
+    pub rows-is : rows k (s ∷ ss) ≡ rows k ss
+    pub accepted-is : accepted h (s ∷ ss) ≡ accepted h ss
+
+  turned-on : Turned k h f s → TurnedOn
+  unfolding after rows accepted
+  turned-on t =
+      record {
+        after-is = ap (λ (p : BookStep). after (p .book) ss) (t .step);
+        rows-is = ap (λ (p : BookStep). withRows (p .answer) (rows (p .book) ss)) (t .step) ∙ no-rows h s _ (t .number);
+        accepted-is = ap (λ (l : History). accepted l ss) (grown-same h s (t .number));
+      }
+
+-- by what happens to the first second of a list
+module _ (k : Book) (h : History) (f : Follows k h) (s : BookSecond) (ss : List BookSecond) where
+  either : {C : Type 0} → (Taken k h f s → TakenOn k h f s ss → C) → (Turned k h f s → TurnedOn k h f s ss → C) → C
+  either {C} p q = ⊎-elim (λ t. p t (taken-on k h f s ss t)) (λ t. q t (turned-on k h f s ss t)) (judged k h f s)
+
+-- ---- the sums
+
+none : (k : Book) (h : History) → (after k [] ≡ k) × (rows k [] ≡ []) × (accepted h [] ≡ h)
+unfolding after rows accepted
+none k h = (refl, refl, refl)
+
++ℤ-left : (a b c : ℤ) → a +ℤ (b +ℤ c) ≡ b +ℤ (a +ℤ c)
++ℤ-left a b c = sym (+ℤ-assoc a b c) ∙ ap (λ (z : ℤ). z +ℤ c) (+ℤ-comm a b) ∙ +ℤ-assoc b a c
+
+-- a sum that is kept in the book, by any column of the rows
+module _
+    (g : Sums → ℤ) (c : ThreeRows → ℤ)
+    (grows : (q : Sums) (h : History) (s : BookSecond) → g (sumsWith q (unitRowAt h s) (aRowAt h s) (bRowAt h s) (due s)) ≡ g q +ℤ c (three h s)) where
+  kept : (ss : List BookSecond) (k : Book) (h : History) → Follows k h → g (after k ss .sums) ≡ g (k .sums) +ℤ sumOf c (rows k ss)
+  kept [] k h f = rw (none k h .0, none k h .1) (sym (+ℤ-idr (g (k .sums))))
+  kept (s ∷ ss) k h f =
+      either k h f s ss
+      (λ t w. rw (w .after-is, w .rows-is)
+      (kept ss (next k h f s) (s ∷ h) (next-follows k h f s t)
+      ∙ ap (λ (z : ℤ). z +ℤ sumOf c (rows (next k h f s) ss)) (grows (k .sums) h s)
+      ∙ +ℤ-assoc (g (k .sums)) (c (three h s)) (sumOf c (rows (next k h f s) ss))))
+      (λ t w. rw (w .after-is, w .rows-is) (kept ss k h f))
+
+-- due, over the accepted seconds
+kept-dues : (ss : List BookSecond) (k : Book) (h : History) → Follows k h → after k ss .sums .due .0 +ℤ sumOf due h ≡ k .sums .due .0 +ℤ sumOf due (accepted h ss)
+unfolding sumsWith
+kept-dues [] k h f = rw (none k h .0, none k h .2)
+kept-dues (s ∷ ss) k h f =
+    either k h f s ss
+    (λ t w. rw (w .after-is, w .accepted-is)
+    (moved (after (next k h f s) ss .sums .due .0) (sumOf due h) (k .sums .due .0) (due s) (sumOf due (accepted (s ∷ h) ss)) (kept-dues ss (next k h f s) (s ∷ h) (next-follows k h f s t))))
+    (λ t w. rw (w .after-is, w .accepted-is) (kept-dues ss k h f))
+  where
+    moved : (x y z d v : ℤ) → x +ℤ (d +ℤ y) ≡ (z +ℤ d) +ℤ v → x +ℤ y ≡ z +ℤ v
+    moved x y z d v e =
+        omega (
+          arith,
+          shows,
+          eq-up e,
+          eq-dn e,
+          add-nat d y,
+          add-nat x (d +ℤ y),
+          add-nat z d,
+          add-nat (z +ℤ d) v,
+          add-nat x y,
+          add-nat z v,
+        )
+
+-- ---- the balance
+
+abbrev ofA : ThreeRows → ℤ
+ofA r = actualsOf (r .a)
+
+abbrev ofB : ThreeRows → ℤ
+ofB r = actualsOf (r .b)
+
+abbrev ofOpen : ThreeRows → ℤ
+ofOpen r = openOf (r .unit) (r .a) (r .b)
+
+abbrev all : List ThreeRows → ℤ
+all rs = sumOf ofA rs +ℤ sumOf ofB rs +ℤ sumOf ofOpen rs
+
+six : (a b c A B C : ℤ) → (a +ℤ A) +ℤ (b +ℤ B) +ℤ (c +ℤ C) ≡ (a +ℤ b +ℤ c) +ℤ (A +ℤ B +ℤ C)
+six a b c A B C = simp (+ℤ-assoc, +ℤ-left)
+
+balance-from : (ss : List BookSecond) (k : Book) (h : History) → Follows k h → all (rows k ss) +ℤ sumOf due h ≡ sumOf due (accepted h ss)
+balance-from [] k h f = rw (none k h .1, none k h .2) (+ℤ-idl (sumOf due h))
+balance-from (s ∷ ss) k h f =
+    either k h f s ss
+    (λ t w. rw (w .rows-is, w .accepted-is)
+    (ap (λ (z : ℤ). z +ℤ sumOf due h)
+    (six (ofA (three h s)) (ofB (three h s)) (ofOpen (three h s)) (sumOf ofA (rows (next k h f s) ss)) (sumOf ofB (rows (next k h f s) ss)) (sumOf ofOpen (rows (next k h f s) ss))
+    ∙ ap (λ (z : ℤ). z +ℤ all (rows (next k h f s) ss)) (second-balance k h f s t))
+    ∙ turned (due s) (all (rows (next k h f s) ss)) (sumOf due h)
+    ∙ balance-from ss (next k h f s) (s ∷ h) (next-follows k h f s t)))
+    (λ t w. rw (w .rows-is, w .accepted-is) (balance-from ss k h f))
+  where
+    turned : (d x y : ℤ) → (d +ℤ x) +ℤ y ≡ x +ℤ (d +ℤ y)
+    turned d x y = +ℤ-assoc d x y ∙ +ℤ-left d x y
+
+-- ---- every second
+
+rows-answer : (k : Book) (h : History) (f : Follows k h) (s : BookSecond) → Taken k h f s → answerAt h s ≡ Rows (unitRowAt h s) (aRowAt h s) (bRowAt h s)
+unfolding answerAt
+rows-answer k h f s t = rw (t .form-number, t .unit-number, t .a-number, t .b-number)
+
+at-second : (k : Book) (h : History) (f : Follows k h) (s : BookSecond) → AtSecond k h s
+at-second k h f s =
+    record {
+      unit-past = f .unit;
+      a-past = f .a;
+      b-past = f .b;
+      answer = ⊎-elim (λ t. ap (λ (p : BookStep). p .answer) (t .step) ∙ sym (rows-answer k h f s t)) (λ t. ap (λ (p : BookStep). p .answer) (t .step)) j;
+      accepted-rows = λ e. ⊎-elim (λ t. ap (λ (p : BookStep). p .answer) (t .step)) (λ t. absurd (t .number e)) j;
+      refused-same = λ q. ⊎-elim (λ t. absurd (q (t .number))) (λ t. ap (λ (p : BookStep). p .book) (t .step)) j;
+      unit-rows = λ e. row-holds (pastOf unitBytes h) (f .unit-accepted) _ (record-number (pastOf unitBytes h) _ (taken e .unit-number)) (pos 0) (pos 0);
+      a-rows = λ e. row-holds (pastOf aBytes h) (f .a-accepted) _ (record-number (pastOf aBytes h) _ (taken e .a-number)) _ _;
+      b-rows = λ e. row-holds (pastOf bBytes h) (f .b-accepted) _ (record-number (pastOf bBytes h) _ (taken e .b-number)) _ _;
+    }
+  where
+    j : Taken k h f s ⊎ Turned k h f s
+    j = judged k h f s
+
+    taken : numberAt h s ≡ 0 → Taken k h f s
+    taken e = ⊎-elim (λ t. t) (λ t. absurd (t .number e)) j
+
+each : (ss : List BookSecond) (k : Book) (h : History) → Follows k h → EachSecond k h ss
+each [] k h f = tt
+each (s ∷ ss) k h f = (
+  at-second k h f s,
+  ⊎-elim
+      (λ t. rw (ap (λ (p : BookStep). p .book) (t .step), grown-more h s (t .number)) (each ss (next k h f s) (s ∷ h) (next-follows k h f s t)))
+      (λ t. rw (ap (λ (p : BookStep). p .book) (t .step), grown-same h s (t .number)) (each ss k h f))
+      (judged k h f s),
+)
+
+-- ---- for every list of book seconds from a fresh book, refused ones included
+
+kept-column : (g : Sums → ℤ) (c : ThreeRows → ℤ) → ((q : Sums) (h : History) (s : BookSecond) → g (sumsWith q (unitRowAt h s) (aRowAt h s) (bRowAt h s) (due s)) ≡ g q +ℤ c (three h s)) → g (fresh .sums) ≡ pos 0
+    → (ss : List BookSecond) → g (after fresh ss .sums) ≡ sumOf c (rows fresh ss)
+kept-column g c grows z ss = kept g c grows ss fresh [] fresh-follows ∙ ap (λ (n : ℤ). n +ℤ sumOf c (rows fresh ss)) z ∙ +ℤ-idl _
+
+pub claim : (ss : List BookSecond) → Claim ss
+unfolding fresh sumsWith
+claim ss =
+    record {
+      balance = sym (+ℤ-idr _) ∙ balance-from ss fresh [] fresh-follows;
+      kept-a = kept-column (λ (q : Sums). q .a .0) ofA (λ q h s. refl) refl ss;
+      kept-b = kept-column (λ (q : Sums). q .b .0) ofB (λ q h s. refl) refl ss;
+      kept-open = kept-column (λ (q : Sums). q .«open» .0) ofOpen (λ q h s. refl) refl ss;
+      kept-due = sym (+ℤ-idr _) ∙ kept-dues ss fresh [] fresh-follows ∙ +ℤ-idl _;
+      each = each ss fresh [] fresh-follows;
+    }

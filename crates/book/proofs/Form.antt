@@ -1,0 +1,48 @@
+-- A book second's form: 12 and 16, and the bytes of the three plants. Assumes nothing.
+use mathlib.Core.Path.{_≡_, refl, sym, _∙_}
+use mathlib.Core.List.{List, [], _∷_}
+use Prim.Native.Nat.{ℕ, zero, suc, _-_, _≤_}
+use native.Mathlib.Omega.{arith}
+use borrow.Author.Tests.{eqb-true, not-false, ltb-false}
+use lib.Dec.{eqb}
+use lib.ListN.{length, take, drop, length-take, length-drop}
+use lib.Seq.{take-all}
+use Rattle.numbers.proofs.Rules.{none}
+use Rattle.record.specs.Record.{size}
+use Rattle.book.specs.declared.Book.{Book}
+use Rattle.book.specs.declared.BookAnswer.the-variants.{Refused}
+use Rattle.book.specs.declared.BookStep.{BookStep}
+use Rattle.book.specs.Seconds.{BookSecond, bookSize, unitBytes, aBytes, bBytes}
+use Rattle.book.specs.Rows.{formRules, formNumber}
+use Rattle.book.specs.State.{secondOf, plantsIn, stepBy, stepIn, PartsOf, PlantsStepped, Ready, Stepped}
+
+pub whole : (o : ℕ) (s : List ℕ) → formNumber (secondOf o s) ≡ 0 → length s ≡ bookSize
+unfolding formNumber
+whole o s e = let n = none (formRules (secondOf o s)) refl e in eqb-true _ _ (not-false (eqb (length s) bookSize) (n .0))
+
+module _ (s : List ℕ) (l : length s ≡ bookSize) where
+  pub unit-length : length (unitBytes s) ≡ size
+  unit-length = simp length-take (omega arith)
+
+  pub a-length : length (aBytes s) ≡ size
+  a-length = simp (length-take, length-drop) (omega arith)
+
+  pub b-length : length (bBytes s) ≡ size
+  b-length = simp (length-take, length-drop) (omega arith)
+
+  -- the last plant's bytes go to the end
+  pub to-the-end : (n : ℕ) → size ≤ n → take n (drop 72 s) ≡ bBytes s
+  to-the-end n h = take-all n (drop 72 s) (simp length-drop (omega arith)) ∙ sym (take-all size (drop 72 s) (simp length-drop (omega arith)))
+
+module _ (k : Book) (o : ℕ) (s : List ℕ) where
+  by-refusal : (n : ℕ) (given : BookStep) → (n ≡ 0 → ⊥) → record { answer = Refused n; book = k } ≡ stepBy n k given
+  by-refusal zero given h = absurd (h refl)
+  by-refusal (suc n) given h = refl
+
+  pub refused : {n : ℕ} → n ≡ formNumber (secondOf o s) → (n ≡ 0 → ⊥) → Ready k → Stepped k (secondOf o s) (record { answer = Refused n; book = k })
+  unfolding stepIn
+  refused {n} e h r = record { is = rw (← e) (by-refusal n _ h); ready = r }
+
+  pub stepped : {u a b : List ℕ} (p : BookStep) → formNumber (secondOf o s) ≡ 0 → PartsOf s u a b → PlantsStepped k o u a b p → Stepped k (secondOf o s) p
+  unfolding stepIn
+  stepped p e parts q = record { is = rw e (q .is s parts); ready = q .ready }

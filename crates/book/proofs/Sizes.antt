@@ -1,0 +1,102 @@
+-- A second's figures and their sums are small enough. Assumes nothing.
+use mathlib.Core.Path.{_≡_, sym, ap}
+use mathlib.Core.Bool.{Bool}
+use Prim.Native.Nat.{ℕ, _+_, _*_, _≤_, zero-le}
+use native.Mathlib.Nat.{mul-le-mul-right}
+use native.Mathlib.Omega.{arith}
+use lib.Dec.{T, leb}
+use lib.IntN.{ℤ, pos, _+ℤ_, +ℤ-idr}
+use Rattle.numbers.specs.Bounds.{Within}
+use mir.Syntax.{w32, w64}
+use mir.Val.{SFits}
+use Rattle.numbers.proofs.Fit.{fit, within-le, within-lit, within-cond}
+use Rattle.record.specs.declared.KindBits.{KindBits}
+use Rattle.record.specs.declared.Record.{Record}
+use Rattle.row.specs.declared.KindRow.{KindRow}
+use Rattle.row.specs.declared.Row.{Row}
+use Rattle.row.specs.declared.sums.Sums.{Sums}
+use Rattle.plant.specs.Refusals.{mostSeconds, mostPower}
+use Rattle.sharing.specs.Sizes.{mostSetpoint, SizedRow}
+use Rattle.sharing.proofs.Sizes.{less, more}
+use Rattle.book.specs.Seconds.{difference}
+use Rattle.book.specs.Rows.{valueIf, valuesOf}
+use Rattle.book.specs.State.{mostSummand, mostAtUnit, mostAtPool, mostValues, mostInSecond, kwSeconds, actualsOf, openOf, sumsWith, SumsReady, InRange, Summed}
+
+three : (B C : ℕ) (x y z : ℤ) → 3 * B ≤ C → Within B x → Within B y → Within B z → Within C (x +ℤ (y +ℤ z))
+three B C x y z h p q r = more B (2 * B) C x (y +ℤ z) (omega arith) p (more B B (2 * B) y z (omega arith) q r)
+
+pub three-fit : (x y z : ℤ) → Within mostSummand x → Within mostSummand y → Within mostSummand z → SFits w32 (x +ℤ (y +ℤ z))
+three-fit x y z p q r = let h = three mostSummand (3 * mostSummand) x y z (omega arith) p q r in search fit
+
+-- ---- the unit's values
+
+-- an actual value at the unit
+abbrev pub mostActual : ℕ
+mostActual = mostAtUnit + 4 * mostSetpoint
+
+value : (t : Bool) (k : KindRow) → Within mostActual (k .actual .0) → Within mostActual (valueIf t k)
+value t k h = within-cond mostActual t _ _ h (within-lit mostActual _ tt)
+
+module _ (b : KindBits) (r : Row) (s : SizedRow mostAtUnit r) where
+  pub fcr-value : Within mostActual (valueIf (b .fcr) (r .fcr))
+  fcr-value = value (b .fcr) (r .fcr) (s .fcr .actual)
+
+  pub afrr-value : Within mostActual (valueIf (b .afrr) (r .afrr))
+  afrr-value = value (b .afrr) (r .afrr) (s .afrr .actual)
+
+  pub mfrr-value : Within mostActual (valueIf (b .mfrr) (r .mfrr))
+  mfrr-value = value (b .mfrr) (r .mfrr) (s .mfrr .actual)
+
+  pub values-small : Within mostValues (valuesOf b r)
+  unfolding valuesOf
+  values-small = three mostActual mostValues _ _ _ (omega arith) fcr-value afrr-value mfrr-value
+
+-- ---- what is added to the sums
+
+pub actuals-small : (r : Row) → SizedRow mostAtPool r → Within mostInSecond (actualsOf r)
+actuals-small r s =
+    let B = mostAtPool + 4 * mostSetpoint in
+    rw (+ℤ-idr (r .mfrr .actual .0)) (three (mostAtPool + 4 * mostSetpoint) mostInSecond _ _ _ (omega arith) (s .fcr .actual) (s .afrr .actual) (s .mfrr .actual))
+
+pub open-small : (u a b : Row) → SizedRow mostAtUnit u → SizedRow mostAtPool a → SizedRow mostAtPool b → Within mostInSecond (openOf u a b)
+open-small u a b p q r =
+    three mostAtPool mostInSecond _ _ _ (omega arith) (within-le mostAtUnit mostAtPool _ (p .open-within) tt) (q .open-within) (r .open-within)
+
+difference-small : (x : Record) → InRange x → Within mostAtUnit (difference x)
+difference-small x r = less mostPower mostPower mostAtUnit _ _ (omega arith) (r .measured) (r .working-point)
+
+pub due-small : (u a b : Record) → InRange u → InRange a → InRange b → Within mostInSecond (difference u +ℤ (difference a +ℤ difference b))
+due-small u a b p q r = three mostAtUnit mostInSecond _ _ _ (omega arith) (difference-small u p) (difference-small a q) (difference-small b r)
+
+-- ---- the sums
+
+pub sums-none : (n : ℕ) → SumsReady n (record { a = kwSeconds (pos 0); b = kwSeconds (pos 0); «open» = kwSeconds (pos 0); due = kwSeconds (pos 0) })
+sums-none n = record { a = none; b = none; «open» = none; due = none }
+  where
+    none : Within (n * mostInSecond) (pos 0)
+    none = record { within = zero-le }
+
+-- a sum that is kept, and one second's addition
+pub sum-fits : (x y : ℤ) → Within (mostSeconds * mostInSecond) x → Within mostInSecond y → SFits w64 (x +ℤ y)
+sum-fits x y p q = search fit
+
+longer : (n m : ℕ) (z : ℤ) → n ≤ m → Within (n * mostInSecond) z → Within (m * mostInSecond) z
+longer n m z h p = record { within = omega (arith, p .within, mul-le-mul-right mostInSecond h) }
+
+pub sums-longer : (n m : ℕ) (q : Sums) → n ≤ m → SumsReady n q → SumsReady m q
+sums-longer n m q h r =
+    record { a = longer n m _ h (r .a); b = longer n m _ h (r .b); «open» = longer n m _ h (r .«open»); due = longer n m _ h (r .due) }
+
+module _ (n : ℕ) (q : Sums) (u a b : Row) (d : ℤ) (r : SumsReady n q) (s : Summed u a b d) where
+  added : (x y : ℤ) → Within (n * mostInSecond) x → Within mostInSecond y → Within ((n + 1) * mostInSecond) (x +ℤ y)
+  added x y p k = more (n * mostInSecond) mostInSecond ((n + 1) * mostInSecond) x y (omega arith) p k
+
+  pub sums-more : SumsReady (n + 1) (sumsWith q u a b d)
+  unfolding sumsWith
+  sums-more =
+      record {
+        a = added _ _ (r .a) (actuals-small a (s .a-sized));
+        b = added _ _ (r .b) (actuals-small b (s .b-sized));
+        «open» = added _ _ (r .«open») (open-small u a b (s .unit-sized) (s .a-sized) (s .b-sized));
+        due = added _ _ (r .due) (s .due-small);
+      }
