@@ -13,7 +13,6 @@ use Rattle.plant.specs.declared.PlantState.{PlantState}
 use Rattle.plant.specs.declared.PlantStep.{PlantStep}
 use Rattle.plant.specs.Rows as plant
 use Rattle.plant.specs.State as plant-state
-use Rattle.plant.specs.Run as plant-run
 use Rattle.plant.proofs.Past.{over-bytes}
 use Rattle.plant.proofs.Run.{record-number, also-accepted, none-accepted}
 use Rattle.book.specs.declared.Book.{Book}
@@ -29,9 +28,9 @@ pub record Follows (k : Book) (h : History) : Type 0 where
   pub unit : k .unit ≡ plant.stateOf (pastOf unitBytes h)
   pub a : k .a ≡ plant.stateOf (pastOf aBytes h)
   pub b : k .b ≡ plant.stateOf (pastOf bBytes h)
-  pub unit-accepted : plant-run.Accepted (pastOf unitBytes h)
-  pub a-accepted : plant-run.Accepted (pastOf aBytes h)
-  pub b-accepted : plant-run.Accepted (pastOf bBytes h)
+  pub unit-accepted : plant.Accepted (pastOf unitBytes h)
+  pub a-accepted : plant.Accepted (pastOf aBytes h)
+  pub b-accepted : plant.Accepted (pastOf bBytes h)
 
 pub fresh-follows : Follows fresh []
 unfolding fresh
@@ -39,7 +38,7 @@ fresh-follows =
     record { unit = refl; a = refl; b = refl; unit-accepted = none-accepted; a-accepted = none-accepted; b-accepted = none-accepted }
 
 -- a plant's step over its own past
-over : (part : List ℕ → List ℕ) (h : History) (st : PlantState) (s : List ℕ) (m w : ℤ) → st ≡ plant.stateOf (pastOf part h) → plant-run.Accepted (pastOf part h)
+over : (part : List ℕ → List ℕ) (h : History) (st : PlantState) (s : List ℕ) (m w : ℤ) → st ≡ plant.stateOf (pastOf part h) → plant.Accepted (pastOf part h)
     → plant-state.stepIn st s m w ≡ record { answer = plant.answerAt (pastOf part h) s m w; state = plant.stateOf (plant.grown (pastOf part h) s) }
 over part h st s m w e a = rw e (over-bytes (pastOf part h) a s m w)
 

@@ -1,0 +1,48 @@
+//! aFRR: band (004, lines 273 on). The setpoint is in the record.
+
+use crate::power::{five_percent, Limits, GRAINS};
+
+/// Lowest and highest of s(first) to s(last). `setpoints[j]` is that of second j, and before second 0 all are 0.
+fn lowest_and_highest(setpoints: &[i64], first: i64, last: i64) -> (i64, i64) {
+    if last < 0 {
+        return (0, 0);
+    }
+    let inside = &setpoints[first.max(0) as usize..=last as usize];
+    let (mut lowest, mut highest) = if first < 0 { (0, 0) } else { (inside[0], inside[0]) };
+    for &s in inside {
+        lowest = lowest.min(s);
+        highest = highest.max(s);
+    }
+    (lowest, highest)
+}
+
+/// "The larger of 5,000 kW and (highest minus lowest of s(t-300) to s(t-30)), divided by 270", in grains.
+pub fn gradient(setpoints: &[i64], now: i64) -> i64 {
+    let (lowest, highest) = lowest_and_highest(setpoints, now - 300, now - 30);
+    (highest - lowest).max(5_000) * (GRAINS / 270)
+}
+
+/// "Held is 'up' for s above 0, 'down' below, the larger at 0."
+pub fn held(s: i64, up: i64, down: i64) -> i64 {
+    if s > 0 {
+        up
+    } else if s < 0 {
+        down
+    } else {
+        up.max(down)
+    }
+}
+
+/// The limits at the last second of `setpoints`, which holds those of all seconds from 0 on; `last` has the
+/// carried limits of the second before, 0 and 0 before second 0.
+pub fn limits(setpoints: &[i64], last: Limits, up: i64, down: i64) -> Limits {
+    let now = setpoints.len() as i64 - 1;
+    let s = setpoints[now as usize];
+    let gradient = gradient(setpoints, now);
+    let floor = five_percent(held(s, up, down));
+    let (lowest, highest) = lowest_and_highest(setpoints, now - 30, now - 1);
+    Limits {
+        low: (lowest * GRAINS).min(last.low + gradient).min(s * GRAINS - floor),
+        high: (highest * GRAINS).max(last.high - gradient).max(s * GRAINS + floor),
+    }
+}

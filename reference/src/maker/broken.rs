@@ -1,0 +1,627 @@
+//! Broken books: every refusal number that a book can reach, alone and two at once.
+
+use super::families::Made;
+use super::random::Random;
+use super::tracks::{seconds, Calls, End, Errors, Mover, Track, Values};
+use super::{book_blocks, Second};
+use crate::block::{seal, LENGTH};
+use crate::record::Record;
+use std::array;
+
+/// Where in a book: its first, a middle or its last second or block.
+#[derive(Clone, Copy, Debug)]
+pub enum Place {
+    First,
+    Middle,
+    Last,
+}
+
+const PLACES: [Place; 3] = [Place::First, Place::Middle, Place::Last];
+const PLANTS: [&str; 3] = ["U", "A", "B"];
+
+#[derive(Clone, Copy, Debug)]
+pub enum Fault {
+    /// A plant number, 2 to 11, in one record.
+    Plant(u8, usize, Place),
+    /// Two plant numbers in one record; `None`: any two.
+    TwoInOne(Option<(u8, u8)>),
+    /// A larger number in an earlier plant and a smaller one in a later plant of the same second.
+    TwoPlants(usize, usize),
+    /// Faults in two seconds that follow each other.
+    TwoSeconds,
+    Input(Input),
+    Header(Header),
+    Block(Block, Place),
+    Mixed(Mixed),
+}
+
+/// Too few bytes or too many.
+#[derive(Clone, Copy, Debug)]
+pub enum Input {
+    Empty,
+    HeaderCut,
+    HeaderOnly,
+    FirstBlockCut,
+    MiddleBlockCut,
+    LastBlockCut,
+    LastBlockMissing,
+    OneByteMore,
+    OneBlockMore,
+}
+
+#[derive(Clone, Copy, Debug)]
+pub enum Header {
+    CutAndCheck,
+    Check,
+    ByteUnderCheck,
+    FirstBytes,
+    Version,
+    /// Owner 8 and no block after the header.
+    OwnerAndNoBlock,
+    NoSeconds,
+    OneSecondTooMany,
+    /// One of the spare bytes 7 and 12 to 507.
+    Spare(usize),
+    AnySpare,
+    /// A number from 13 to 17 and the next one.
+    WithNext(u8),
+    /// A header whose seconds are not those of the blocks.
+    Says(i64),
+    /// A header with 90,000 seconds, which is sound, over far fewer blocks.
+    SaysMost,
+}
+
+#[derive(Clone, Copy, Debug)]
+pub enum Block {
+    CutAndCheck,
+    Check,
+    SpareBeforeSeconds,
+    SpareAfterSeconds,
+    UnusedSecond,
+    Number,
+    Count,
+    CheckAndNumber,
+    NumberAndCount,
+    CountAndSpare,
+}
+
+/// A block's fault together with a plant's or with bytes after the last block.
+#[derive(Clone, Copy, Debug)]
+pub enum Mixed {
+    SpareAndPlant,
+    PlantThenBlock,
+    PlantThenCut,
+    PlantThenMore,
+    CheckThenMore,
+}
+
+/// All cases, in turn.
+pub fn cases() -> Vec<Fault> {
+    let mut cases = Vec::new();
+    for place in PLACES {
+        for number in 2..=11 {
+            for plant in 0..3 {
+                cases.push(Fault::Plant(number, plant, place));
+            }
+        }
+    }
+    for number in 2..=10 {
+        cases.push(Fault::TwoInOne(Some((number, number + 1))));
+    }
+    cases.push(Fault::TwoInOne(None));
+    cases.extend([Fault::TwoPlants(0, 1), Fault::TwoPlants(0, 2), Fault::TwoPlants(1, 2)]);
+    cases.push(Fault::TwoSeconds);
+    cases.extend([
+        Fault::Input(Input::Empty),
+        Fault::Input(Input::HeaderCut),
+        Fault::Input(Input::HeaderOnly),
+        Fault::Input(Input::FirstBlockCut),
+        Fault::Input(Input::MiddleBlockCut),
+        Fault::Input(Input::LastBlockCut),
+        Fault::Input(Input::LastBlockMissing),
+        Fault::Input(Input::OneByteMore),
+        Fault::Input(Input::OneBlockMore),
+        Fault::Header(Header::CutAndCheck),
+        Fault::Header(Header::Check),
+        Fault::Header(Header::ByteUnderCheck),
+        Fault::Header(Header::FirstBytes),
+        Fault::Header(Header::Version),
+        Fault::Header(Header::OwnerAndNoBlock),
+        Fault::Header(Header::NoSeconds),
+        Fault::Header(Header::OneSecondTooMany),
+        Fault::Header(Header::Spare(7)),
+        Fault::Header(Header::Spare(12)),
+        Fault::Header(Header::Spare(507)),
+        Fault::Header(Header::AnySpare),
+        Fault::Header(Header::Says(1)),
+        Fault::Header(Header::Says(4)),
+        Fault::Header(Header::Says(-1)),
+        Fault::Header(Header::Says(-4)),
+        Fault::Header(Header::SaysMost),
+    ]);
+    cases.extend((13..=17).map(|number| Fault::Header(Header::WithNext(number))));
+    for place in PLACES {
+        for block in [
+            Block::Check,
+            Block::SpareBeforeSeconds,
+            Block::SpareAfterSeconds,
+            Block::Number,
+            Block::Count,
+        ] {
+            cases.push(Fault::Block(block, place));
+        }
+    }
+    cases.extend([
+        Fault::Block(Block::UnusedSecond, Place::Last),
+        Fault::Block(Block::CutAndCheck, Place::Middle),
+        Fault::Block(Block::CheckAndNumber, Place::Middle),
+        Fault::Block(Block::NumberAndCount, Place::Last),
+        Fault::Block(Block::CountAndSpare, Place::First),
+        Fault::Mixed(Mixed::SpareAndPlant),
+        Fault::Mixed(Mixed::PlantThenBlock),
+        Fault::Mixed(Mixed::PlantThenCut),
+        Fault::Mixed(Mixed::PlantThenMore),
+        Fault::Mixed(Mixed::CheckThenMore),
+    ]);
+    cases
+}
+
+/// The book of the case that is in turn.
+pub fn make(turn: u64, owner: u8, random: &mut Random) -> Made {
+    let cases = cases();
+    let fault = cases[(turn % cases.len() as u64) as usize];
+    match fault {
+        Fault::Plant(number, plant, place) => {
+            let mut seconds = base(owner, full_if(number == 10, plant), random);
+            let at = second_of(place, number, seconds.len(), random);
+            spoil(&mut seconds[at][plant], number, 3 * place as usize + plant, at, random);
+            let name = format!("broken, {} in {} at the {:?} second", number, PLANTS[plant], place);
+            made(name, book_blocks(owner, &seconds).concat(), number, at)
+        }
+        Fault::TwoInOne(pair) => {
+            let (first, next) = pair.unwrap_or_else(|| {
+                let first = random.within(2, 10);
+                (first as u8, random.within(first + 1, 11) as u8)
+            });
+            let plant = random.index(3);
+            let mut seconds = base(owner, full_if(next == 10 || first == 10, plant), random);
+            let place = random.pick(&PLACES);
+            let at = second_of(place, if next == 10 { 10 } else { first }, seconds.len(), random);
+            let (one, other) = (random.index(9), random.index(9));
+            spoil(&mut seconds[at][plant], next, other, at, random);
+            spoil(&mut seconds[at][plant], first, one, at, random);
+            let name = format!("broken, {} and {} in {} at the {:?} second", first, next, PLANTS[plant], place);
+            made(name, book_blocks(owner, &seconds).concat(), first, at)
+        }
+        Fault::TwoPlants(earlier, later) => {
+            let smaller = random.within(2, 8);
+            let between = random.within(smaller + 1, 9);
+            let larger = random.pick(&[9, 11, between]) as u8;
+            let mut seconds = base(owner, None, random);
+            let at = random.index(seconds.len());
+            let (one, other) = (random.index(9), random.index(9));
+            spoil(&mut seconds[at][earlier], larger, one, at, random);
+            spoil(&mut seconds[at][later], smaller as u8, other, at, random);
+            let name = format!("broken, {} in {}, {} in {}", larger, PLANTS[earlier], smaller, PLANTS[later]);
+            made(name, book_blocks(owner, &seconds).concat(), larger, at)
+        }
+        Fault::TwoSeconds => {
+            let mut seconds = base(owner, None, random);
+            let at = random.index(seconds.len() - 1);
+            let (one, other) = (random.index(9), random.index(9));
+            spoil(&mut seconds[at][2], 11, one, at, random);
+            spoil(&mut seconds[at + 1][0], 2, other, at + 1, random);
+            made("broken, 11 in B, 2 in U a second later".to_string(), book_blocks(owner, &seconds).concat(), 11, at)
+        }
+        Fault::Input(input) => of_input(input, owner, random),
+        Fault::Header(header) => of_header(header, owner, random),
+        Fault::Block(block, place) => of_block(block, place, owner, random),
+        Fault::Mixed(mixed) => of_mixed(mixed, owner, random),
+    }
+}
+
+fn made(name: String, bytes: Vec<u8>, number: u8, at: usize) -> Made {
+    Made {
+        name,
+        bytes,
+        expected: Some((number, at)),
+    }
+}
+
+fn full_if(full: bool, plant: usize) -> Option<usize> {
+    if full {
+        Some(plant)
+    } else {
+        None
+    }
+}
+
+/// The seconds of a sound book, all kinds on. With a plant named, that one calls at every second until all eight
+/// places are taken, at second 8, and no place is freed before the book ends.
+fn base(owner: u8, full: Option<usize>, random: &mut Random) -> Vec<Second> {
+    let mut tracks: [Track; 3] = array::from_fn(|plant| Track {
+        fcr_held: Mover::fixed(random.within(1, 9) * 400),
+        deviation: Mover::new(Values::Walk(20, -180, 180), &[1]),
+        up: Mover::fixed(random.within(0, 9) * 500),
+        down: Mover::fixed(random.within(0, 9) * 500),
+        afrr: Mover::new(Values::Walk(600, -5_000, 5_000), &[1, 7]),
+        working_point: Mover::fixed(random.within(-9_000, 9_000)),
+        calls: if full == Some(plant) { Calls::Every(1, 1) } else { Calls::Once(0) },
+        targets: Values::Uniform(90_000, 99_000),
+        ends: End::Any,
+        errors: Errors::Noise(700),
+        ..Track::still()
+    });
+    let count = random.within(50, 160) as usize;
+    seconds(owner, &mut tracks, count, random)
+}
+
+fn second_of(place: Place, number: u8, count: usize, random: &mut Random) -> usize {
+    let first = if number == 10 { 9 } else { 0 };
+    match place {
+        Place::First => first,
+        Place::Middle => random.within(first as i64 + 1, count as i64 - 2) as usize,
+        Place::Last => count - 1,
+    }
+}
+
+/// Gives a sound record of second `now` the fault that has this number, in one of nine ways.
+fn spoil(record: &mut Record, number: u8, way: usize, now: usize, random: &mut Random) {
+    let now = now as i64;
+    match number {
+        2 => {
+            let held = [-1, 1_000_001, i32::MIN][way / 3];
+            match way % 3 {
+                0 => record.fcr_held = held,
+                1 => record.afrr_held_up = held,
+                _ => record.afrr_held_down = held,
+            }
+        }
+        3 => record.deviation = [5_001, -5_001, i16::MAX, i16::MIN][way % 4],
+        4 => {
+            let power = [4_000_001, -4_000_001, i32::MAX, i32::MIN][way / 2 % 4];
+            if way % 2 == 0 {
+                record.measured = power;
+            } else {
+                record.working_point = power;
+            }
+        }
+        5 => record.afrr_setpoint = [1_000_001, -1_000_001, i32::MAX, i32::MIN][way % 4],
+        6 => record.status = [8, 9, 15, 16, 128, 255][way % 6],
+        7 => {
+            (record.call, record.mfrr_target, record.delivery_end) = [
+                (2, 0, 0),
+                (0, 1, 0),
+                (0, 0, 900),
+                (0, -1, 0),
+                (0, 0, 1),
+                (255, record.mfrr_target, record.delivery_end),
+                (0, 1_000, 1_800),
+                (0, 0, u32::MAX),
+                (2, 1_000, 1_800),
+            ][way];
+        }
+        8 => {
+            call(record, now, random);
+            record.mfrr_target = [1_000_001, -1_000_001, i32::MAX, i32::MIN][way % 4];
+        }
+        9 => {
+            call(record, now, random);
+            let sound = record.delivery_end;
+            let below = ((now + 899) / 900 * 900) as u32;
+            let above = (((now + 3_600) / 900 + 1) * 900) as u32;
+            record.delivery_end = [sound - 1, sound + 1, above, below, above, 0, below, 4_294_966_500, u32::MAX][way];
+        }
+        10 => call(record, now, random),
+        11 => {
+            // a running call has a setpoint from second 1 on
+            let kind = [0, 1, 0, 2, 3, 0, 1, 2, 3][if now == 0 { way % 3 } else { way }];
+            match kind {
+                0 => {
+                    record.fcr_held = random.pick(&[2, 400, 1_000_000]);
+                    record.deviation = random.pick(&[100, -100, 200, -5_000]);
+                    record.status &= !1;
+                }
+                1 => {
+                    record.afrr_setpoint = random.pick(&[1, -1, 1_000_000]);
+                    record.status &= !2;
+                }
+                2 => record.status &= !4,
+                _ => {
+                    call(record, now, random);
+                    record.status &= !4;
+                }
+            }
+        }
+        _ => unreachable!("a plant's number is 2 to 11"),
+    }
+}
+
+/// A sound new call, where there is none yet.
+fn call(record: &mut Record, now: i64, random: &mut Random) {
+    if record.call == 1 {
+        return;
+    }
+    record.call = 1;
+    record.mfrr_target = random.within(-9_000, 9_000) as i32;
+    let first = (now + 900 + 899) / 900;
+    let last = (now + 3_600) / 900;
+    record.delivery_end = (random.within(first, last) * 900) as u32;
+}
+
+fn of_input(input: Input, owner: u8, random: &mut Random) -> Made {
+    let seconds = base(owner, None, random);
+    let count = seconds.len();
+    let mut bytes = book_blocks(owner, &seconds).concat();
+    let blocks = bytes.len() / LENGTH - 1;
+    let inside = random.within(1, 511) as usize;
+    let middle = random.within(2, blocks as i64 - 1) as usize;
+    let (length, number, at) = match input {
+        Input::Empty => (0, 12, 0),
+        Input::HeaderCut => (random.pick(&[1, 511, inside]), 12, 0),
+        Input::HeaderOnly => (LENGTH, 12, 0),
+        Input::FirstBlockCut => (LENGTH + random.pick(&[1, 511, inside]), 12, 0),
+        Input::MiddleBlockCut => (middle * LENGTH + inside, 12, 4 * (middle - 1)),
+        Input::LastBlockCut => (blocks * LENGTH + 511, 12, 4 * (blocks - 1)),
+        Input::LastBlockMissing => (blocks * LENGTH, 12, 4 * (blocks - 1)),
+        Input::OneByteMore => (bytes.len() + 1, 21, count),
+        Input::OneBlockMore => (bytes.len() + LENGTH, 21, count),
+    };
+    let filling = random.pick(&[0, 255, 10]);
+    bytes.resize(length, filling);
+    made(format!("broken, {:?}", input), bytes, number, at)
+}
+
+/// Gives a header the fault that has this number; the check is renewed after all but 13.
+fn spoil_header(header: &mut [u8], number: u8, random: &mut Random) {
+    match number {
+        14 => header[random.index(4)] ^= 1 << random.index(8),
+        15 => header[4] = random.pick(&[0, 2, 3, 255]),
+        16 => header[6] = random.pick(&[8, 9, 16, 128, 255]),
+        17 => header[8..12].copy_from_slice(&random.pick(&[0, 90_002, 1 << 31, u32::MAX]).to_le_bytes()),
+        18 => {
+            let between = random.within(13, 506) as usize;
+            header[random.pick(&[7, 12, 507, between])] = random.within(1, 255) as u8;
+        }
+        _ => {}
+    }
+    seal(header);
+    if number == 13 {
+        header[508 + random.index(4)] ^= 1 << random.index(8);
+    }
+}
+
+fn of_header(fault: Header, owner: u8, random: &mut Random) -> Made {
+    let seconds = base(owner, None, random);
+    let count = seconds.len() as i64;
+    let left = count % 4;
+    let full = count - left;
+    let mut blocks = book_blocks(owner, &seconds);
+    let header = &mut blocks[0];
+    let set_seconds = |header: &mut Vec<u8>, seconds: u32| {
+        header[8..12].copy_from_slice(&seconds.to_le_bytes());
+        seal(header);
+    };
+    let mut expected = None;
+    let number = match fault {
+        Header::CutAndCheck => {
+            spoil_header(header, 13, random);
+            12
+        }
+        Header::Check => {
+            spoil_header(header, 13, random);
+            13
+        }
+        Header::ByteUnderCheck => {
+            header[random.within(0, 507) as usize] ^= 1 << random.index(8);
+            13
+        }
+        Header::FirstBytes => {
+            header[3] = b'V';
+            seal(header);
+            14
+        }
+        Header::Version => {
+            header[5] = 1;
+            seal(header);
+            15
+        }
+        Header::OwnerAndNoBlock => {
+            header[6] = 8;
+            seal(header);
+            16
+        }
+        Header::NoSeconds => {
+            set_seconds(header, 0);
+            17
+        }
+        Header::OneSecondTooMany => {
+            set_seconds(header, 90_001);
+            17
+        }
+        Header::Spare(at) => {
+            header[at] = random.within(1, 255) as u8;
+            seal(header);
+            18
+        }
+        Header::AnySpare => {
+            spoil_header(header, 18, random);
+            18
+        }
+        Header::WithNext(number) => {
+            spoil_header(header, number + 1, random);
+            spoil_header(header, number, random);
+            number
+        }
+        Header::SaysMost => {
+            set_seconds(header, 90_000);
+            expected = Some(if left == 0 { (12, count) } else { (20, full) });
+            0
+        }
+        Header::Says(more) => {
+            set_seconds(header, (count + more) as u32);
+            expected = Some(match more {
+                4 if left == 0 => (12, count),
+                4 => (20, full),
+                1 if left == 0 => (12, count),
+                1 => (20, full),
+                -1 if left == 1 => (21, full),
+                -1 if left == 0 => (20, count - 4),
+                -1 => (20, full),
+                _ if left == 0 => (21, count - 4),
+                _ => (20, full - 4),
+            });
+            0
+        }
+    };
+    let mut bytes = blocks.concat();
+    match fault {
+        Header::CutAndCheck => bytes.truncate(random.within(1, 511) as usize),
+        Header::OwnerAndNoBlock => bytes.truncate(LENGTH),
+        _ => {}
+    }
+    let (number, at) = expected.unwrap_or((number, 0));
+    made(format!("broken, header, {:?}", fault), bytes, number, at as usize)
+}
+
+/// Gives block `number` (from 1) the fault, another one at each place; the check is renewed but where it is the fault.
+fn spoil_block(block: &mut [u8], number: usize, fault: Block, place: Place, random: &mut Random) {
+    let count = block[4];
+    let number = number as u32;
+    let by_place = |first: usize, middle: i64, last: usize| match place {
+        Place::First => first,
+        Place::Middle => middle as usize,
+        Place::Last => last,
+    };
+    let spare = random.within(1, 255) as u8;
+    match fault {
+        Block::Check | Block::CutAndCheck => block[508 + random.index(4)] ^= 1 << random.index(8),
+        Block::SpareBeforeSeconds => block[by_place(5, random.within(5, 15), 15)] = spare,
+        Block::SpareAfterSeconds => block[by_place(448, random.within(448, 507), 507)] = spare,
+        Block::UnusedSecond => block[16 + 108 * count as usize] = spare,
+        Block::Number | Block::CheckAndNumber | Block::NumberAndCount => {
+            let other = by_place(number as usize + 1, number as i64 - 1, number as usize + (1 << 24));
+            block[0..4].copy_from_slice(&(other as u32).to_le_bytes());
+        }
+        Block::Count | Block::CountAndSpare => {
+            block[4] = by_place(3, 5, if count < 4 { count as usize + 1 } else { 0 }) as u8;
+        }
+    }
+    match fault {
+        Block::NumberAndCount => block[4] = count ^ 1,
+        Block::CountAndSpare => block[5 + random.index(11)] = spare,
+        _ => {}
+    }
+    match fault {
+        Block::Check | Block::CutAndCheck => {}
+        _ => seal(block),
+    }
+    if let Block::CheckAndNumber = fault {
+        block[508] ^= 1;
+    }
+}
+
+fn of_block(fault: Block, place: Place, owner: u8, random: &mut Random) -> Made {
+    let mut seconds = base(owner, None, random);
+    if let Block::UnusedSecond = fault {
+        while seconds.len() % 4 == 0 {
+            seconds.pop();
+        }
+    }
+    let mut blocks = book_blocks(owner, &seconds);
+    let last = blocks.len() - 1;
+    let number = match place {
+        Place::First => 1,
+        Place::Middle => random.within(2, last as i64 - 1) as usize,
+        Place::Last => last,
+    };
+    spoil_block(&mut blocks[number], number, fault, place, random);
+    let mut bytes = blocks.concat();
+    let refusal = match fault {
+        Block::CutAndCheck => {
+            bytes.truncate(number * LENGTH + random.within(1, 511) as usize);
+            12
+        }
+        Block::Check | Block::CheckAndNumber => 13,
+        Block::SpareBeforeSeconds | Block::SpareAfterSeconds | Block::UnusedSecond => 18,
+        Block::Number | Block::NumberAndCount => 19,
+        Block::Count | Block::CountAndSpare => 20,
+    };
+    made(format!("broken, {:?} block, {:?}", place, fault), bytes, refusal, 4 * (number - 1))
+}
+
+fn of_mixed(mixed: Mixed, owner: u8, random: &mut Random) -> Made {
+    let mut seconds = base(owner, None, random);
+    let count = seconds.len();
+    let number = random.within(2, (count as i64 + 3) / 4 - 1) as usize;
+    let first = 4 * (number - 1);
+    let at = match mixed {
+        Mixed::SpareAndPlant => first,
+        Mixed::PlantThenBlock | Mixed::PlantThenCut => first + random.index(4),
+        Mixed::PlantThenMore => count - 1,
+        Mixed::CheckThenMore => 0,
+    };
+    let refusal = random.pick(&[2, 3, 4, 5, 6, 7, 8, 9, 11]);
+    if !matches!(mixed, Mixed::CheckThenMore) {
+        let (plant, way) = (random.index(3), random.index(9));
+        spoil(&mut seconds[at][plant], refusal, way, at, random);
+    }
+    let mut blocks = book_blocks(owner, &seconds);
+    let last = blocks.len() - 1;
+    let name = format!("broken, {:?}", mixed);
+    match mixed {
+        Mixed::SpareAndPlant => {
+            spoil_block(&mut blocks[number], number, Block::SpareBeforeSeconds, Place::Middle, random);
+            made(name, blocks.concat(), 18, first)
+        }
+        Mixed::PlantThenBlock => {
+            spoil_block(&mut blocks[number + 1], number + 1, Block::Check, Place::Middle, random);
+            made(name, blocks.concat(), refusal, at)
+        }
+        Mixed::PlantThenCut => {
+            let mut bytes = blocks.concat();
+            bytes.truncate((number + 1) * LENGTH + random.index(LENGTH));
+            made(name, bytes, refusal, at)
+        }
+        Mixed::PlantThenMore => {
+            blocks.push(vec![0; random.within(1, 600) as usize]);
+            made(name, blocks.concat(), refusal, at)
+        }
+        Mixed::CheckThenMore => {
+            spoil_block(&mut blocks[last], last, Block::Check, Place::Middle, random);
+            blocks.push(vec![0; random.within(1, 600) as usize]);
+            made(name, blocks.concat(), 13, 4 * (last - 1))
+        }
+    }
+}
+
+#[cfg(test)]
+mod tests {
+    use super::*;
+    use crate::line::refusal_line;
+    use crate::line::second_line;
+    use crate::program::output_of;
+
+    /// Every case is refused with the number and at the second that it was made for.
+    #[test]
+    fn cases_are_refused_as_meant() {
+        let count = cases().len() as u64;
+        assert_eq!(count, 160, "two of three seeds: 240 books have every case");
+        for round in 0..40 {
+            for turn in 0..count {
+                let made = make(turn, (round % 8) as u8, &mut Random::new(round * 1_000 + turn));
+                let output = output_of(&made.bytes, second_line);
+                let (number, at) = made.expected.expect("a broken book says why");
+                assert!(
+                    output.ends_with(&refusal_line(number, at)),
+                    "{}: {:?}, not {} at {}",
+                    made.name,
+                    output.lines().last(),
+                    number,
+                    at
+                );
+                assert_eq!(output.lines().count(), at + 1, "{}", made.name);
+            }
+        }
+    }
+}

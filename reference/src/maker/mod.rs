@@ -1,0 +1,35 @@
+//! Books by seed, for comparing programs.
+
+pub mod broken;
+pub mod families;
+pub mod random;
+pub mod tracks;
+
+use crate::block::{write_block, write_header};
+use crate::book;
+use crate::record::Record;
+
+/// Records of U, A and B.
+pub type Second = [Record; 3];
+
+pub fn second_bytes(second: &Second) -> [u8; book::LENGTH] {
+    let mut bytes = [0; book::LENGTH];
+    for (plant, record) in second.iter().enumerate() {
+        bytes[plant * 36..plant * 36 + 36].copy_from_slice(&record.write());
+    }
+    bytes
+}
+
+/// The blocks of a book, header first.
+pub fn book_blocks(owner: u8, seconds: &[Second]) -> Vec<Vec<u8>> {
+    let mut blocks = vec![write_header(owner, seconds.len() as u32).to_vec()];
+    for (k, four) in seconds.chunks(4).enumerate() {
+        let inside: Vec<_> = four.iter().map(second_bytes).collect();
+        blocks.push(write_block(k as u32 + 1, &inside).to_vec());
+    }
+    blocks
+}
+
+pub fn book_bytes(owner: u8, seconds: &[Second]) -> Vec<u8> {
+    book_blocks(owner, seconds).concat()
+}
