@@ -1,6 +1,6 @@
 -- The seconds of a block in turn: one second's answer, and what the seconds so far added. Assumes nothing.
-use mathlib.Core.Path.{_≡_, refl, sym, ap, _∙_}
-use mathlib.Core.List.{List, [], _∷_, _++_, append-assoc, append-nil}
+use mathlib.Core.Path.{_≡_, refl, ap, _∙_}
+use mathlib.Core.List.{List, [], _++_, append-assoc, append-nil}
 use Prim.Native.Nat.{ℕ, suc, _+_, _*_, _-_, _≤_, _<_}
 use native.Mathlib.Numerals.{add-one}
 use native.Mathlib.Omega.{arith}
@@ -19,7 +19,7 @@ use Rattle.report.specs.declared.run.Plan.{Plan}
 use Rattle.report.specs.declared.run.Run.{Run}
 use Rattle.report.specs.declared.run.Verdict.the-variants.{Accepted, Refused}
 use Rattle.report.specs.Text.{linesOf, secondRoom, blockRoom}
-use Rattle.report.specs.Running.{Ran, refusedAt, answered, secondIn, after, followed, secondsIn, secondsFrom, runOf, Adds}
+use Rattle.report.specs.Running.{refusedAt, answered, secondIn, after, followed, secondsIn, secondsFrom, runOf, Adds}
 
 -- ---- one second
 

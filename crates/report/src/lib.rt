@@ -36,8 +36,10 @@ const BLOCK: usize = 512;
 
 const PER_BLOCK: u32 = 4;
 
-// The room that the lines of a block need, and the last line too.
-const ROOM: usize = 3072;
+// The bytes that a line takes at most, and those that a block's lines take, three a second; the last line takes no more.
+const LINE_ROOM: usize = 256;
+
+const ROOM: usize = 3 * LINE_ROOM * PER_BLOCK as usize;
 
 fn send(out: &[u8], end: usize)
     requires { ⌜ end ≤ length (now out) ⌝ }

@@ -15,10 +15,22 @@ ghost use Rattle.report.specs.Text.{textOf, roomOf, linesOf, lastOf, sec
 
 // The lines that are printed.
 pub(crate) enum TextLine {
-    Second { second: u32, unit: Row, a: Row, b: Row },
-    Plant { second: u32, letter: u8, row: Row },
+    Second {
+        second: u32,
+        unit: Row,
+        a: Row,
+        b: Row,
+    },
+    Plant {
+        second: u32,
+        letter: u8,
+        row: Row,
+    },
     Sums(Sums),
-    Refusal { number: u8, seconds: u32 },
+    Refusal {
+        number: u8,
+        seconds: u32,
+    },
 }
 
 fn write(buf: &mut [u8], text: TextLine) -> Answer
@@ -26,7 +38,11 @@ fn write(buf: &mut [u8], text: TextLine) -> Answer
 {
     match text {
         TextLine::Second { second, unit, a, b } => line::second_line(buf, second, unit, a, b),
-        TextLine::Plant { second, letter, row } => line::plant_line(buf, second, letter, row),
+        TextLine::Plant {
+            second,
+            letter,
+            row,
+        } => line::plant_line(buf, second, letter, row),
         TextLine::Sums(sums) => line::sum_line(buf, sums),
         TextLine::Refusal { number, seconds } => line::refusal_line(buf, number, seconds),
     }
@@ -65,7 +81,15 @@ fn add_figures(out: &mut [u8], at: usize, second: u32, unit: Row, a: Row, b: Row
 }
 
 // Appends the lines of an accepted second.
-pub(crate) fn add_second(out: &mut [u8], at: usize, form: Form, second: u32, unit: Row, a: Row, b: Row) -> usize
+pub(crate) fn add_second(
+    out: &mut [u8],
+    at: usize,
+    form: Form,
+    second: u32,
+    unit: Row,
+    a: Row,
+    b: Row,
+) -> usize
     requires { ⌜ at + secondRoom ≤ length (now out) ⌝ }
     ensures { λ r. ⌜ Put secondRoom (now (out .entry)) (now (out .exit)) at r (linesOf form second unit a b) ⌝ }
 {

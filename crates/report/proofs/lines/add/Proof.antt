@@ -1,11 +1,8 @@
-use Rattle.report.proofs.Adding.{room-most, put-in-rest}
+-- `report::lines::add` meets its contract: a line in the rest of the buffer is text put there (`put-in-rest`). Assumes nothing.
 use borrow.Author.Needs.{needs}
+use Rattle.report.proofs.Adding.{room-most, put-in-rest}
 use Rattle.report.proofs.lines.add.Statement.{statement}
 use Rattle.report.proofs.lines.add.Tie as tie
-use Rattle.report.proofs.lines.add.Reads as reads
-use Rattle.report.proofs.lines.add.Lts as lts
-use Rattle.line.proofs.length_in.Reads as length-in-reads
-use Rattle.report.proofs.lines.write.Reads as write-reads
 
 sub-write : tie.Need-sub-write
 sub-write c = search needs

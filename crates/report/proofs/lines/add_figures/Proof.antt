@@ -1,10 +1,8 @@
-use Rattle.line.proofs.Puts.{both}
+-- `report::lines::add_figures` meets its contract: three lines, one after the other. Assumes nothing.
 use borrow.Author.Needs.{needs}
+use Rattle.line.proofs.Puts.{both}
 use Rattle.report.proofs.lines.add_figures.Statement.{statement}
 use Rattle.report.proofs.lines.add_figures.Tie as tie
-use Rattle.report.proofs.lines.add_figures.Reads as reads
-use Rattle.report.proofs.lines.add_figures.Lts as lts
-use Rattle.report.proofs.lines.add_plant.Reads as add-plant-reads
 
 add-plant-requires : tie.Need-add-plant-requires
 add-plant-requires c κs = search needs

@@ -1,12 +1,9 @@
+-- `report::lines::add_second` meets its contract, by its form. Assumes nothing.
 use native.Mathlib.Omega.{arith}
-use Rattle.line.proofs.Puts.{loosen}
 use borrow.Author.Needs.{needs}
+use Rattle.line.proofs.Puts.{loosen}
 use Rattle.report.proofs.lines.add_second.Statement.{statement}
 use Rattle.report.proofs.lines.add_second.Tie as tie
-use Rattle.report.proofs.lines.add_second.Reads as reads
-use Rattle.report.proofs.lines.add_second.Lts as lts
-use Rattle.report.proofs.lines.add.Reads as add-reads
-use Rattle.report.proofs.lines.add_figures.Reads as add-figures-reads
 
 enum-told : tie.Need-enum-told
 enum-told c = search needs

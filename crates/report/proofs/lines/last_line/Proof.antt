@@ -1,8 +1,7 @@
+-- `report::lines::last_line` meets its contract, by the verdict. Assumes nothing.
 use borrow.Author.Needs.{needs}
 use Rattle.report.proofs.lines.last_line.Statement.{statement}
 use Rattle.report.proofs.lines.last_line.Tie as tie
-use Rattle.report.proofs.lines.last_line.Reads as reads
-use Rattle.report.proofs.lines.last_line.Lts as lts
 
 enum-told : tie.Need-enum-told
 enum-told c = search needs

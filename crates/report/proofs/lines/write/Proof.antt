@@ -1,12 +1,7 @@
+-- `report::lines::write` meets its contract: each line by its own writer. Assumes nothing.
 use borrow.Author.Needs.{needs}
 use Rattle.report.proofs.lines.write.Statement.{statement}
 use Rattle.report.proofs.lines.write.Tie as tie
-use Rattle.report.proofs.lines.write.Reads as reads
-use Rattle.report.proofs.lines.write.Lts as lts
-use Rattle.line.proofs.refusal_line.Reads as refusal-line-reads
-use Rattle.line.proofs.second_line.Reads as second-line-reads
-use Rattle.line.proofs.sum_line.Reads as sum-line-reads
-use Rattle.line.proofs.plant_line.Reads as plant-line-reads
 
 enum-known-text : tie.Need-enum-known-text
 enum-known-text c = search needs

@@ -1,12 +1,8 @@
-use Rattle.report.proofs.Blocks.{whole, in-turn, turned-down}
+-- `report::run::run_block` meets its contract: an accepted block has 512 bytes and at most 4 seconds (`whole`). Assumes nothing.
 use borrow.Author.Needs.{needs}
+use Rattle.report.proofs.Blocks.{whole, in-turn, turned-down}
 use Rattle.report.proofs.run.run_block.Statement.{statement}
 use Rattle.report.proofs.run.run_block.Tie as tie
-use Rattle.report.proofs.run.run_block.Reads as reads
-use Rattle.report.proofs.run.run_block.Lts as lts
-use Rattle.block.proofs.read_block.Reads as read-block-reads
-use Rattle.report.proofs.run.refused.Reads as refused-reads
-use Rattle.report.proofs.run.run_seconds.Reads as run-seconds-reads
 
 read-block-requires : tie.Need-read-block-requires
 read-block-requires c κs = search needs

@@ -1,13 +1,8 @@
-use Rattle.report.proofs.Seconds.{taken, turned-down}
+-- `report::run::run_second` meets its contract, by the book's answer. Assumes nothing.
 use borrow.Author.Needs.{needs}
+use Rattle.report.proofs.Seconds.{taken, turned-down}
 use Rattle.report.proofs.run.run_second.Statement.{statement}
 use Rattle.report.proofs.run.run_second.Tie as tie
-use Rattle.report.proofs.run.run_second.Reads as reads
-use Rattle.report.proofs.run.run_second.Lts as lts
-use Rattle.book.proofs.Book.second.Reads as second-reads
-use Rattle.report.proofs.lines.add_second.Reads as add-second-reads
-use Rattle.report.proofs.run.accepted.Reads as accepted-reads
-use Rattle.report.proofs.run.refused.Reads as refused-reads
 
 second-requires : tie.Need-second-requires
 second-requires c κs = search needs

@@ -1,16 +1,13 @@
+-- `report::run::run_seconds` meets its contract. The invariant: what the seconds so far added, and that all give it and what the rest gives
+-- (`Through`). The measure is the number of seconds left. Assumes nothing.
 use mathlib.Core.Path.{ap}
-use Rattle.report.specs.declared.run.Run.{Run}
 use Prim.Native.Nat.{_-_}
 use native.Mathlib.Omega.{arith}
 use borrow.Author.Needs.{needs}
+use Rattle.report.specs.declared.run.Run.{Run}
 use Rattle.report.proofs.Seconds.{Through, start, onward, stopped, finished}
 use Rattle.report.proofs.run.run_seconds.Statement.{statement}
 use Rattle.report.proofs.run.run_seconds.Tie as tie
-use Rattle.report.proofs.run.run_seconds.Reads as reads
-use Rattle.report.proofs.run.run_seconds.Lts as lts
-use Rattle.block.proofs.second.Reads as second-reads
-use Rattle.report.proofs.run.accepted.Reads as accepted-reads
-use Rattle.report.proofs.run.run_second.Reads as run-second-reads
 
 abbrev Inv-loop : tie.InvT-loop
 Inv-loop used plan block count out₀ run₀ i₀ out run i = Through plan (run₀ .book) block count out₀ out used run i
@@ -22,7 +19,7 @@ accepted-requires : tie.Need-accepted-requires Inv-loop μ-loop
 accepted-requires c κs = search needs
 
 loop-holds : tie.Need-loop-holds Inv-loop μ-loop
-loop-holds c = rw (c .accepted .ensures) (start (c .before .before .before .pre .0) (search needs))
+loop-holds c = rw (c .accepted .ensures) (start (c .before .before .before .pre .0) (omega (arith, c .before .before .before .pre .3)))
 
 second-requires : tie.Need-second-requires Inv-loop μ-loop
 second-requires c κs = search needs
@@ -37,13 +34,13 @@ same-length : tie.Need-same-length Inv-loop μ-loop
 same-length c = search needs
 
 returns : tie.Need-returns Inv-loop μ-loop
-returns c = rw (ap (λ (r : Run). r .book) (c .before .before .before .before .before .before .before .before .before .accepted .ensures)) at (stopped (c .before .before .before .before .before .before .before .before .loop .inv) (c .before .before .before .before .before .before .before .loop-test .taken) (c .before .before .before .before .before .before .second .ensures .bytes) (c .before .before .before .before .run-second .ensures) (search needs) (c .enum-told .given .1))
+returns c = rw (ap (λ (r : Run). r .book) (c .before .before .before .before .before .before .before .before .before .accepted .ensures)) at (stopped (c .before .before .before .before .before .before .before .before .loop .inv) (c .before .before .before .before .before .before .before .loop-test .taken) (c .before .before .before .before .before .before .second .ensures .bytes) (c .before .before .before .before .run-second .ensures) (c .before .before .before .before .before .before .before .before .before .before .before .before .pre .2) (c .enum-told .given .1))
 
 enum-told-2 : tie.Need-enum-told-2 Inv-loop μ-loop
 enum-told-2 c = search needs
 
 add-i : tie.Need-add-i Inv-loop μ-loop
-add-i c = search needs
+add-i c = omega (arith, c .before .before .before .before .before .before .before .loop-test .taken, c .before .before .before .before .before .before .before .before .before .before .before .before .pre .2)
 
 loop-less : tie.Need-loop-less Inv-loop μ-loop
 loop-less c = search needs
@@ -55,7 +52,7 @@ same-length-2 : tie.Need-same-length-2 Inv-loop μ-loop
 same-length-2 c = search needs
 
 returns-2 : tie.Need-returns-2 Inv-loop μ-loop
-returns-2 c = rw (ap (λ (r : Run). r .book) (c .before .before .accepted .ensures)) at (finished (c .before .loop .inv) (search needs) (search needs))
+returns-2 c = rw (ap (λ (r : Run). r .book) (c .before .before .accepted .ensures)) at (finished (c .before .loop .inv) (c .loop-test .left) (c .before .before .before .before .before .pre .2))
 
 pub run-seconds-spec : {M : Type 1} → statement M
 run-seconds-spec =
