@@ -1,0 +1,43 @@
+-- `report::lines::add_second` meets its contract, by its form. Assumes nothing.
+use native.Mathlib.Omega.{arith}
+use borrow.Author.Needs.{needs}
+use Rattle.line.proofs.Puts.{loosen}
+use Rattle.report.proofs.lines.add_second.Statement.{statement}
+use Rattle.report.proofs.lines.add_second.Tie as tie
+
+enum-told : tie.Need-enum-told
+enum-told c = search needs
+
+add-requires : tie.Need-add-requires
+add-requires c κs = search needs
+
+enum-told-2 : tie.Need-enum-told-2
+enum-told-2 c = search needs
+
+add-figures-requires : tie.Need-add-figures-requires
+add-figures-requires c κs = search needs
+
+same-length : tie.Need-same-length
+same-length c = search needs
+
+returns : tie.Need-returns
+returns c = rw (c .before .before .before .before .enum-told .given .1) (loosen (omega arith) (c .before .before .add .ensures))
+
+same-length-2 : tie.Need-same-length-2
+same-length-2 c = search needs
+
+returns-2 : tie.Need-returns-2
+returns-2 c = rw (c .before .before .before .before .enum-told2 .given .1) (c .before .before .add-figures .ensures)
+
+pub add-second-spec : {M : Type 1} → statement M
+add-second-spec =
+    tie.close
+    (tie.spec
+    enum-told
+    add-requires
+    enum-told-2
+    add-figures-requires
+    same-length
+    returns
+    same-length-2
+    returns-2)

@@ -1,0 +1,73 @@
+-- `report::lines::write` meets its contract: each line by its own writer. Assumes nothing.
+use borrow.Author.Needs.{needs}
+use Rattle.report.proofs.lines.write.Statement.{statement}
+use Rattle.report.proofs.lines.write.Tie as tie
+
+enum-known-text : tie.Need-enum-known-text
+enum-known-text c = search needs
+
+second-line-requires : tie.Need-second-line-requires
+second-line-requires c κs = search needs
+
+enum-known-text-2 : tie.Need-enum-known-text-2
+enum-known-text-2 c = search needs
+
+plant-line-requires : tie.Need-plant-line-requires
+plant-line-requires c κs = search needs
+
+enum-known-text-3 : tie.Need-enum-known-text-3
+enum-known-text-3 c = search needs
+
+sum-line-requires : tie.Need-sum-line-requires
+sum-line-requires c κs = search needs
+
+enum-known-text-4 : tie.Need-enum-known-text-4
+enum-known-text-4 c = search needs
+
+refusal-line-requires : tie.Need-refusal-line-requires
+refusal-line-requires c κs = search needs
+
+same-length : tie.Need-same-length
+same-length c = search needs
+
+returns : tie.Need-returns
+returns c = rw (c .before .before .before .before .before .text .given .1) (c .before .before .second-line .ensures)
+
+same-length-2 : tie.Need-same-length-2
+same-length-2 c = search needs
+
+returns-2 : tie.Need-returns-2
+returns-2 c = rw (c .before .before .before .before .before .text2 .given .1) (c .before .before .plant-line .ensures)
+
+same-length-3 : tie.Need-same-length-3
+same-length-3 c = search needs
+
+returns-3 : tie.Need-returns-3
+returns-3 c = rw (c .before .before .before .before .before .text3 .given .1) (c .before .before .sum-line .ensures)
+
+same-length-4 : tie.Need-same-length-4
+same-length-4 c = search needs
+
+returns-4 : tie.Need-returns-4
+returns-4 c = rw (c .before .before .before .before .before .text4 .given .1) (c .before .before .refusal-line .ensures)
+
+pub write-spec : {M : Type 1} → statement M
+write-spec =
+    tie.close
+    (tie.spec
+    enum-known-text
+    second-line-requires
+    enum-known-text-2
+    plant-line-requires
+    enum-known-text-3
+    sum-line-requires
+    enum-known-text-4
+    refusal-line-requires
+    same-length
+    returns
+    same-length-2
+    returns-2
+    same-length-3
+    returns-3
+    same-length-4
+    returns-4)

@@ -1,0 +1,115 @@
+// A block run second by second: the text that it adds, the book after it, and its refusal.
+use crate::Form;
+use crate::lines::add_second;
+use block::Block;
+use book::Book;
+use book::BookAnswer;
+ghost use Prim.Native.Nat.{_+_, _≤_};
+ghost use mathlib.Core.Path.{_≡_};
+ghost use lib.ListN.{length};
+ghost use Rattle.book.specs.State.{Ready};
+ghost use Rattle.block.specs.Places.{blockSize, perBlock};
+ghost use Rattle.report.specs.Text.{secondRoom, blockRoom};
+ghost use Rattle.report.specs.Running.{runOf, secondIn, secondsIn, secondsFrom, blockIn, Adds};
+
+// How a book is run: the form of its lines, and what its header gives.
+pub(crate) struct Plan {
+    pub form: Form,
+    pub owner: u8,
+    pub seconds: u32,
+}
+
+// All accepted so far, or the number of the refusal that ends the text.
+pub(crate) enum Verdict {
+    Accepted,
+    Refused(u8),
+}
+
+// Where a run stands: `used` bytes of the buffer wait to be written.
+pub(crate) struct Run {
+    pub book: Book,
+    pub used: usize,
+    pub verdict: Verdict,
+}
+
+pub(crate) fn accepted(book: Book, used: usize) -> Run
+    ensures { λ r. ⌜ r ≡ runOf book used Verdict.Accepted ⌝ }
+{
+    Run {
+        book,
+        used,
+        verdict: Verdict::Accepted,
+    }
+}
+
+pub(crate) fn refused(book: Book, used: usize, number: u8) -> Run
+    ensures { λ r. ⌜ r ≡ runOf book used (Verdict.Refused number) ⌝ }
+{
+    Run {
+        book,
+        used,
+        verdict: Verdict::Refused(number),
+    }
+}
+
+// One book second: its lines, or its refusal.
+fn run_second(book: Book, used: usize, plan: Plan, bytes: &[u8], out: &mut [u8]) -> Run
+    requires { ⌜ Ready book × (used + secondRoom ≤ length (now out)) ⌝ }
+    ensures { λ r. ⌜ Adds secondRoom (now (out .entry)) (now (out .exit)) used r (secondIn plan book (now (bytes .entry))) ⌝ }
+{
+    let form = plan.form;
+    let step = book.second(plan.owner, bytes);
+    let next = step.book;
+    let answer = step.answer;
+    match answer {
+        BookAnswer::Rows { unit, a, b } => accepted(
+            next,
+            add_second(out, used, form, book.unit.seconds, unit, a, b),
+        ),
+        BookAnswer::Refused(number) => refused(next, used, number),
+        BookAnswer::RefusedBy { plant: _, number } => refused(next, used, number),
+    }
+}
+
+// The seconds of a block, until one is refused.
+fn run_seconds(
+    book: Book,
+    used: usize,
+    plan: Plan,
+    block: &[u8],
+    count: usize,
+    out: &mut [u8],
+) -> Run
+    requires { ⌜ Ready book × (length (now block) ≡ blockSize) × (count ≤ perBlock) × (used + blockRoom ≤ length (now out)) ⌝ }
+    ensures { λ r. ⌜ Adds blockRoom (now (out .entry)) (now (out .exit)) used r (secondsIn plan book (secondsFrom (now (block .entry)) 0 count)) ⌝ }
+{
+    let mut run = accepted(book, used);
+    let mut i: usize = 0;
+    while i < count {
+        run = run_second(run.book, run.used, plan, block::second(block, i), out);
+        let verdict = run.verdict;
+        if let Verdict::Refused(_) = verdict {
+            return run;
+        }
+        i += 1;
+    }
+    run
+}
+
+// Block n as it was read: its seconds are run, or it is refused.
+pub(crate) fn run_block(
+    book: Book,
+    used: usize,
+    plan: Plan,
+    n: u32,
+    block: &[u8],
+    out: &mut [u8],
+) -> Run
+    requires { ⌜ Ready book × (used + blockRoom ≤ length (now out)) ⌝ }
+    ensures { λ r. ⌜ Adds blockRoom (now (out .entry)) (now (out .exit)) used r (blockIn plan n book (now (block .entry))) ⌝ }
+{
+    match block::read_block(block, plan.seconds, n) {
+        Block::Refused(number) => refused(book, used, number),
+        Block::Seconds(count) => run_seconds(book, used, plan, block, count, out),
+    }
+}

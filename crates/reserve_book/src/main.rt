@@ -1,0 +1,6 @@
+// Prints the book on standard input, a line a second, then the sum line or the refusal (01, "Blocks and text").
+use report::Form;
+
+fn main() {
+    report::print_book(Form::Line);
+}

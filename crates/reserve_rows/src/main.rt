@@ -1,0 +1,6 @@
+// Prints the book on standard input with every figure of every row, then the sum line or the refusal.
+use report::Form;
+
+fn main() {
+    report::print_book(Form::Figures);
+}
