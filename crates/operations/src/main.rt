@@ -11,15 +11,10 @@ use row::KwSeconds;
 use row::Sums;
 ghost use mathlib.Core.Path.{_≡_};
 ghost use Prim.Native.Nat.{_<_};
-ghost use lib.IntN.{pos};
-ghost use Rattle.plant.specs.Rows as plant·rows;
-ghost use Rattle.plant.specs.State as plant;
-ghost use Rattle.book.specs.State as book;
-ghost use Rattle.block.specs.Block.{blockOf, blockSays};
-ghost use Rattle.line.specs.Widths.{lineRoom};
-ghost use Rattle.line.specs.Line.{sumText};
-ghost use Rattle.line.specs.Lined.{answerOf};
-ghost use Rattle.operations.specs.Numbers.{lineNumber, saidNumber, blankBlock};
+ghost use Rattle.plant.specs.State.{Ready};
+ghost use Rattle.book.specs.State.{numberIn};
+ghost use Rattle.block.specs.Block.{blockSays};
+ghost use Rattle.operations.specs.Numbers.{plantNumber, bookNumber, lineNumberIn, lineNumber, saidNumber, blankBlock, blankNumber};
 
 // The seconds of the longest book.
 const MOST_SECONDS: u32 = 90_000;
@@ -27,9 +22,17 @@ const MOST_SECONDS: u32 = 90_000;
 // The seconds of the book that a block is read for: it has one block.
 const SECONDS: u32 = 4;
 
+// The bytes of a block, and the place of its check.
+const BLOCK_SIZE: usize = 512;
+
+const CHECK_AT: usize = 508;
+
+// The bytes of a book second.
+const SECOND_SIZE: usize = 3 * record::SIZE;
+
 // A plant after that many seconds of 0 alone: no kind is on, so each is accepted while a book may be longer.
 fn after_blank(seconds: u32) -> PlantState
-    ensures { λ r. ⌜ plant.Ready r ⌝ }
+    ensures { λ r. ⌜ Ready r ⌝ }
 {
     let blank = [0u8; record::SIZE];
     let mut state = PlantState::new();
@@ -42,8 +45,8 @@ fn after_blank(seconds: u32) -> PlantState
 
 // The number that the plant second answers, 0 with a row.
 fn plant_number(state: PlantState, bytes: &[u8]) -> u8
-    requires { ⌜ plant.Ready state ⌝ }
-    ensures { λ r. ⌜ r ≡ plant·rows.numberIn (plant.stepIn state (now (bytes .entry)) (pos 0) (pos 0) .answer) ⌝ }
+    requires { ⌜ Ready state ⌝ }
+    ensures { λ r. ⌜ r ≡ plantNumber state (now (bytes .entry)) ⌝ }
 {
     let step = state.second(bytes);
     let answer = step.answer;
@@ -52,7 +55,7 @@ fn plant_number(state: PlantState, bytes: &[u8]) -> u8
 
 // The number of a book's answer, 0 with rows.
 fn book_number_in(answer: BookAnswer) -> u8
-    ensures { λ r. ⌜ r ≡ book.numberIn answer ⌝ }
+    ensures { λ r. ⌜ r ≡ numberIn answer ⌝ }
 {
     match answer {
         BookAnswer::Rows {
@@ -67,7 +70,7 @@ fn book_number_in(answer: BookAnswer) -> u8
 
 // The number that the book second answers at a fresh book.
 fn book_number(owner: u8, bytes: &[u8]) -> u8
-    ensures { λ r. ⌜ r ≡ book.numberIn (book.stepIn book.fresh (book.secondOf owner (now (bytes .entry))) .answer) ⌝ }
+    ensures { λ r. ⌜ r ≡ bookNumber owner (now (bytes .entry)) ⌝ }
 {
     let step = Book::new().second(owner, bytes);
     let answer = step.answer;
@@ -76,7 +79,7 @@ fn book_number(owner: u8, bytes: &[u8]) -> u8
 
 // The number of a line writer's answer, 0 with a length.
 fn line_number_in(answer: Answer) -> u8
-    ensures { λ r. ⌜ r ≡ lineNumber answer ⌝ }
+    ensures { λ r. ⌜ r ≡ lineNumberIn answer ⌝ }
 {
     match answer {
         Answer::Length(_) => 0,
@@ -86,19 +89,19 @@ fn line_number_in(answer: Answer) -> u8
 
 // The number that the writer of the sum line answers.
 fn line_number(buf: &mut [u8], sums: Sums) -> u8
-    ensures { λ r. ⌜ r ≡ lineNumber (answerOf lineRoom (now (buf .entry)) (sumText sums)) ⌝ }
+    ensures { λ r. ⌜ r ≡ lineNumber (now (buf .entry)) sums ⌝ }
 {
     line_number_in(sum_line(buf, sums))
 }
 
 // A block with no second in it, its number and its check.
-fn blank_block(number: u8) -> [u8; 512]
+fn blank_block(number: u8) -> [u8; BLOCK_SIZE]
     requires { ⌜ number < 255 ⌝ }
     ensures { λ r. ⌜ r ≡ blankBlock number ⌝ }
 {
-    let mut bytes = [0u8; 512];
+    let mut bytes = [0u8; BLOCK_SIZE];
     bytes[0] = number;
-    bytes[508] = 1 + number;
+    bytes[CHECK_AT] = 1 + number;
     bytes
 }
 
@@ -115,7 +118,7 @@ fn block_number_in(answer: Block) -> u8
 // The number that the block reader answers to such a block where its number is the next.
 fn block_number(number: u8) -> u8
     requires { ⌜ number < 255 ⌝ }
-    ensures { λ r. ⌜ r ≡ saidNumber (blockOf (blankBlock number) 4 number) ⌝ }
+    ensures { λ r. ⌜ r ≡ blankNumber number ⌝ }
 {
     let bytes = blank_block(number);
     block_number_in(read_block(&bytes, SECONDS, number as u32))
@@ -142,7 +145,7 @@ fn plant_after_all() {
 }
 
 fn owner_8() {
-    let second = [0u8; 108];
+    let second = [0u8; SECOND_SIZE];
     report(b"book-second-owner-8", book_number(8, &second));
 }
 

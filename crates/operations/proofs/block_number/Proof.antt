@@ -2,6 +2,7 @@
 use mathlib.Core.Path.{ap, _∙_}
 use mathlib.Core.List.{List}
 use Prim.Native.Nat.{ℕ}
+use Rattle.block.specs.Places.{perBlock}
 use Rattle.block.specs.Block.{blockOf}
 use Rattle.operations.specs.Numbers.{saidNumber}
 use borrow.Author.Needs.{needs}
@@ -25,7 +26,7 @@ returns c =
     let b = c .before .before .before in
     c .block-number-in .ensures
     ∙ ap saidNumber (c .before .read-block .ensures)
-    ∙ ap (λ (l : List ℕ). saidNumber (blockOf l 4 (b .before .args .number))) (b .blank-block .ensures)
+    ∙ ap (λ (l : List ℕ). saidNumber (blockOf l perBlock (b .before .args .number))) (b .blank-block .ensures)
 
 pub block-number-spec : {M : Type 1} → statement M
 block-number-spec = tie.close (tie.spec blank-block-requires slice-aggregate-read-block read-block-requires block-number-in-requires returns)
