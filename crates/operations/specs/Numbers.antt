@@ -7,6 +7,7 @@ use Rattle.row.specs.declared.sums.Sums.{Sums}
 use Rattle.plant.specs.declared.PlantState.{PlantState}
 use Rattle.plant.specs.Rows as plant-rows
 use Rattle.plant.specs.State as plant
+use Rattle.book.specs.Rows as book-rows
 use Rattle.book.specs.State as book
 use Rattle.block.specs.Places.{blockSize, checkAt, perBlock}
 use Rattle.block.specs.Said.{Said, values, refused}
@@ -23,7 +24,7 @@ plantNumber st s = plant-rows.numberIn (plant.stepIn st s (pos 0) (pos 0) .answe
 
 -- the book second of bytes s at a fresh book
 abbrev pub bookNumber : ℕ → List ℕ → ℕ
-bookNumber owner s = book.numberIn (book.stepIn book.fresh (book.secondOf owner s) .answer)
+bookNumber owner s = book-rows.numberIn (book.stepIn book.fresh (book.secondOf owner s) .answer)
 
 abbrev pub lineNumberIn : Answer → ℕ
 lineNumberIn (Length n) = 0

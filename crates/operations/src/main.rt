@@ -12,7 +12,7 @@ use row::Sums;
 ghost use mathlib.Core.Path.{_≡_};
 ghost use Prim.Native.Nat.{_<_};
 ghost use Rattle.plant.specs.State.{Ready};
-ghost use Rattle.book.specs.State.{numberIn};
+ghost use Rattle.book.specs.Rows.{numberIn};
 ghost use Rattle.block.specs.Block.{blockSays};
 ghost use Rattle.operations.specs.Numbers.{plantNumber, bookNumber, lineNumberIn, lineNumber, saidNumber, blankBlock, blankNumber};
 

@@ -3,7 +3,8 @@ use mathlib.Core.Path.{ap, _∙_}
 use denote.Ref.{now}
 use Rattle.book.specs.declared.Book.{Book}
 use Rattle.book.specs.declared.BookStep.{BookStep}
-use Rattle.book.specs.State.{numberIn, secondOf, stepIn}
+use Rattle.book.specs.Rows.{numberIn}
+use Rattle.book.specs.State.{secondOf, stepIn}
 use borrow.Author.Needs.{needs}
 use Rattle.operations.proofs.book_number.Statement.{statement}
 use Rattle.operations.proofs.book_number.Tie as tie
