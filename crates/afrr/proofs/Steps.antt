@@ -11,7 +11,7 @@ use Rattle.numbers.specs.Bounds.{Within}
 use Rattle.numbers.proofs.Fit.{fits-by, within-le, within-lit}
 use Rattle.power.specs.declared.kilowatts.Kw.{Kw}
 use Rattle.power.specs.declared.limits.Limits.{Limits}
-use Rattle.power.specs.Units.{perKw, grains, fivePercent}
+use Rattle.power.specs.Units.{perKw, grains, fivePercent, mostReserve}
 use Rattle.power.specs.Inward.{publishedOf, Contains}
 use Rattle.power.specs.Past.{newest}
 use Rattle.power.proofs.Inside.{published-contains, upper-within, lower-within}
@@ -39,7 +39,7 @@ contains p last x f =
 module _ (st : AfrrState) (x : Second) (r : Ready st) (f : Fair x) where
   sources :
       (recent last : ℤ) →
-      Within 1000000 recent →
+      Within mostReserve recent →
       Within (limitMost * perKw) last →
       Sources recent last (gradient (st .past)) (x .setpoint .0) (fivePercent (heldOf x))
   sources recent last h k =

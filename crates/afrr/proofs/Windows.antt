@@ -12,7 +12,7 @@ use Rattle.numbers.specs.Bounds.{Within}
 use Rattle.numbers.specs.Order.{maxZ, minZ}
 use Rattle.numbers.proofs.Fit.{within-lit, within-max, within-min}
 use Rattle.power.specs.declared.kilowatts.Kw.{Kw}
-use Rattle.power.specs.Units.{kw}
+use Rattle.power.specs.Units.{kw, mostReserve}
 use Rattle.power.specs.Past.{at, newest, Ranged}
 use Rattle.power.proofs.Past.{at-newest, ranged-tail, ranged-drop, ranged-newest}
 use Rattle.afrr.specs.Band.{overFrom, over, largest, smallest, ago}
@@ -62,23 +62,23 @@ module _ (b : ℕ) (p : List Kw) where
 
 -- ---- an operation that stays within a bound does so over a list
 
-module _ (op : ℤ → ℤ → ℤ) (keeps : (a b : ℤ) → Within 1000000 a → Within 1000000 b → Within 1000000 (op a b)) where
-  from-within : (m : ℤ) (l : List Kw) → Within 1000000 m → Ranged l → Within 1000000 (overFrom op m l)
+module _ (op : ℤ → ℤ → ℤ) (keeps : (a b : ℤ) → Within mostReserve a → Within mostReserve b → Within mostReserve (op a b)) where
+  from-within : (m : ℤ) (l : List Kw) → Within mostReserve m → Ranged l → Within mostReserve (overFrom op m l)
   from-within m [] h r = h
   from-within m (k ∷ ks) h r = from-within (op m (k .0)) ks (keeps m (k .0) h (r .ranged 0)) (ranged-tail k ks r)
 
-  over-within : (l : List Kw) → Ranged l → Within 1000000 (over op l)
-  over-within [] r = within-lit 1000000 (pos 0) tt
+  over-within : (l : List Kw) → Ranged l → Within mostReserve (over op l)
+  over-within [] r = within-lit mostReserve (pos 0) tt
   over-within (k ∷ ks) r = from-within (k .0) ks (r .ranged 0) (ranged-tail k ks r)
 
 module _ (a b : ℕ) (p : List Kw) (r : Ranged p) where
   ago-ranged : Ranged (ago a b p)
   ago-ranged = ranged-drop (a - 1) (newest b p) (ranged-newest b p r)
 
-  pub largest-within : Within 1000000 (largest (ago a b p))
+  pub largest-within : Within mostReserve (largest (ago a b p))
   unfolding largest
-  largest-within = over-within maxZ (within-max 1000000) (ago a b p) ago-ranged
+  largest-within = over-within maxZ (within-max mostReserve) (ago a b p) ago-ranged
 
-  pub smallest-within : Within 1000000 (smallest (ago a b p))
+  pub smallest-within : Within mostReserve (smallest (ago a b p))
   unfolding smallest
-  smallest-within = over-within minZ (within-min 1000000) (ago a b p) ago-ranged
+  smallest-within = over-within minZ (within-min mostReserve) (ago a b p) ago-ranged

@@ -22,7 +22,7 @@ abbrev pub reaction : ℕ
 reaction = 30
 
 abbrev pub spread : ℕ
-spread = 270
+spread = reach - reaction
 
 abbrev pub least : ℕ
 least = 5000

@@ -8,7 +8,7 @@ use lib.Signed.{_≤ℤ_}
 use Rattle.numbers.specs.Bounds.{Within}
 use Rattle.power.specs.declared.kilowatts.Kw.{Kw}
 use Rattle.power.specs.declared.limits.Limits.{Limits}
-use Rattle.power.specs.Units.{perKw}
+use Rattle.power.specs.Units.{perKw, mostReserve}
 use Rattle.power.specs.Inward.{publishedOf, Published}
 use Rattle.power.specs.Past.{newest, Ranged}
 use Rattle.afrr.specs.declared.Second.{Second}
@@ -26,7 +26,7 @@ abbrev pub fiveMost : ℕ
 fiveMost = 50000
 
 abbrev pub limitMost : ℕ
-limitMost = 1000000 + fiveMost
+limitMost = mostReserve + fiveMost
 
 -- what is asked of a state
 pub record Ready (st : AfrrState) : Type 0 where
@@ -36,9 +36,9 @@ pub record Ready (st : AfrrState) : Type 0 where
 
 -- what is asked of a second's numbers (refusals 2 and 5 see to it)
 pub record Fair (x : Second) : Type 0 where
-  pub setpoint-range : Within 1000000 (x .setpoint .0)
-  pub up-range : Within 1000000 (x .up .0)
-  pub down-range : Within 1000000 (x .down .0)
+  pub setpoint-range : Within mostReserve (x .setpoint .0)
+  pub up-range : Within mostReserve (x .up .0)
+  pub down-range : Within mostReserve (x .down .0)
   pub up-sign : pos 0 ≤ℤ x .up .0
   pub down-sign : pos 0 ≤ℤ x .down .0
 
@@ -72,7 +72,7 @@ pub record Extreme (l : List Kw) (r : Extremes) : Type 0 where
 
 pub record Holds (x : Second) (r : Kw) : Type 0 where
   pub held : r .0 ≡ heldOf x
-  pub held-range : Within 1000000 (r .0)
+  pub held-range : Within mostReserve (r .0)
   pub held-sign : pos 0 ≤ℤ r .0
 
 -- the largest gradient in grains
@@ -81,11 +81,11 @@ gradientMost = 4000000
 
 -- what a limit is made of: of the recent setpoints the largest or the smallest, the last limit, the gradient, s, and 5 % of held
 pub record Sources (recent last g s five : ℤ) : Type 0 where
-  pub recent-range : Within 1000000 recent
+  pub recent-range : Within mostReserve recent
   pub last-range : Within (limitMost * perKw) last
   pub g-range : Within gradientMost g
   pub g-sign : pos 0 ≤ℤ g
-  pub s-range : Within 1000000 s
+  pub s-range : Within mostReserve s
   pub five-range : Within (fiveMost * perKw) five
   pub five-sign : pos 0 ≤ℤ five
 

@@ -22,7 +22,7 @@ const REACH: usize = 300;
 const REACTION: usize = 30;
 
 // The seconds over which a change is spread, and the least change in kW.
-const SPREAD: i64 = 270;
+const SPREAD: i64 = (REACH - REACTION) as i64;
 
 const LEAST: i32 = 5000;
 

@@ -7,7 +7,8 @@ use native.Mathlib.Omega.{arith}
 use lib.ListN.{length, getD}
 use borrow.Author.Tests.{eqb-false, ltb-false, not-false}
 use Rattle.codec.specs.Little.{u16At, u32At}
-use Rattle.block.specs.Places.{blockSize, checkAt, bodyAt, headerEnd, countEnd, perBlock, mostSeconds, mostOwner, version}
+use Rattle.record.specs.Record.{mostSeconds, allKinds}
+use Rattle.block.specs.Places.{blockSize, checkAt, bodyAt, headerEnd, countEnd, perBlock, version}
 use Rattle.block.specs.Bytes.{part, allZero}
 use Rattle.block.specs.Check.{checkOf}
 use Rattle.block.specs.Said.{values}
@@ -22,7 +23,7 @@ pub record TakenHeader (s : List ℕ) : Type 0 where
   pub check : u32At s checkAt ≡ checkOf s
   pub first-bytes : u32At s 0 ≡ u32At name 0
   pub version-is : u16At s 4 ≡ version
-  pub owners : ownerOf s ≤ mostOwner
+  pub owners : ownerOf s ≤ allKinds
   pub some : 0 < secondsOf s
   pub most : secondsOf s ≤ mostSeconds
   pub seven : getD s 7 0 ≡ 0

@@ -8,7 +8,8 @@ use lib.Dec.{eqb, ltb}
 use Rattle.block.specs.declared.Header.{Header}
 use Rattle.block.specs.declared.Header.the-variants.{Fields, Refused}
 use Rattle.codec.specs.Little.{u16At, u32At}
-use Rattle.block.specs.Places.{blockSize, checkAt, headerEnd, mostSeconds, mostOwner, version}
+use Rattle.record.specs.Record.{mostSeconds, allKinds}
+use Rattle.block.specs.Places.{blockSize, checkAt, headerEnd, version}
 use Rattle.block.specs.Bytes.{part, allZero}
 use Rattle.block.specs.Check.{checkOf}
 use Rattle.numbers.specs.Rules.{Rule, refuse, first, differ}
@@ -31,7 +32,7 @@ headerRules s =
     ∷ refuse 13 (differ (u32At s checkAt) (checkOf s))
     ∷ refuse 14 (differ (u32At s 0) (u32At name 0))
     ∷ refuse 15 (differ (u16At s 4) version)
-    ∷ refuse 16 (ltb mostOwner (ownerOf s))
+    ∷ refuse 16 (ltb allKinds (ownerOf s))
     ∷ refuse 17 (eqb (secondsOf s) 0)
     ∷ refuse 17 (ltb mostSeconds (secondsOf s))
     ∷ refuse 18 (differ (getD s 7 0) 0)

@@ -3,7 +3,8 @@ use mathlib.Core.Path.{_≡_}
 use Prim.Native.Nat.{ℕ, _+_, _*_, _-_, _≤_, _<_}
 use mathlib.Core.List.{List, [], _∷_, _++_}
 use lib.ListN.{length, getD, take, drop}
-use Rattle.block.specs.Places.{checkAt, bodyAt, headerEnd, countEnd, secondSize, mostSeconds, mostOwner, version}
+use Rattle.record.specs.Record.{mostSeconds, allKinds}
+use Rattle.block.specs.Places.{checkAt, bodyAt, headerEnd, countEnd, secondSize, version}
 use Rattle.block.specs.Bytes.{zeros, le4}
 use Rattle.block.specs.Check.{checkOf}
 use Rattle.block.specs.Said.{values}
@@ -19,7 +20,7 @@ unfoldable pub headerBytes : ℕ → ℕ → List ℕ
 headerBytes owner seconds = closed (name ++ ((version ∷ 0 ∷ owner ∷ 0 ∷ []) ++ (le4 seconds ++ zeros (checkAt - headerEnd))))
 
 pub record HeaderLayout (s : List ℕ) (owner seconds : ℕ) : Type 0 where
-  pub owners : owner ≤ mostOwner
+  pub owners : owner ≤ allKinds
   pub some : 0 < seconds
   pub most : seconds ≤ mostSeconds
   pub bytes : s ≡ headerBytes owner seconds

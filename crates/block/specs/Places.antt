@@ -1,5 +1,6 @@
 -- The figures of a block (01, "Blocks and text").
-use Prim.Native.Nat.{ℕ}
+use Prim.Native.Nat.{ℕ, _*_}
+use Rattle.record.specs.Record.{size}
 
 -- "512 bytes each"
 abbrev pub blockSize : ℕ
@@ -14,7 +15,7 @@ abbrev pub bodyAt : ℕ
 bodyAt = 16
 
 abbrev pub secondSize : ℕ
-secondSize = 108
+secondSize = 3 * size
 
 -- "seconds in it (4, fewer only in the last)"
 abbrev pub perBlock : ℕ
@@ -26,14 +27,6 @@ headerEnd = 12
 
 abbrev pub countEnd : ℕ
 countEnd = 5
-
--- "seconds 0 or above 90,000"
-abbrev pub mostSeconds : ℕ
-mostSeconds = 90000
-
--- "owner above 7"
-abbrev pub mostOwner : ℕ
-mostOwner = 7
 
 -- "version 1"
 abbrev pub version : ℕ

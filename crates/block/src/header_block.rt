@@ -11,11 +11,7 @@ const VERSION: u32 = 1;
 
 const OWNER_AT: usize = 6;
 
-const MOST_OWNER: u8 = 7;
-
 const SECONDS_AT: usize = 8;
-
-const MOST_SECONDS: u32 = 90_000;
 
 // The first byte past the fields.
 const END: usize = 12;
@@ -36,14 +32,14 @@ fn header_number(s: &[u8]) -> u8
     if codec::read_u16(s, 4) != VERSION {
         return 15;
     }
-    if s[OWNER_AT] > MOST_OWNER {
+    if s[OWNER_AT] > record::ALL_KINDS {
         return 16;
     }
     let seconds = codec::read_u32(s, SECONDS_AT);
     if seconds == 0 {
         return 17;
     }
-    if seconds > MOST_SECONDS {
+    if seconds > record::MOST_SECONDS {
         return 17;
     }
     if s[7] != 0 {

@@ -16,10 +16,10 @@ const COUNT_AT: usize = 4;
 // The first second's place, and the bytes of a second.
 const BODY_AT: usize = 16;
 
-const SECOND: usize = 108;
+const SECOND: usize = 3 * record::SIZE;
 
 // The seconds of a block that is not the last.
-const PER_BLOCK: usize = 4;
+pub const PER_BLOCK: usize = 4;
 
 // How many seconds block n of the book has: 4, fewer in the last, none after it.
 fn due(seconds: u32, n: u32) -> usize

@@ -6,13 +6,14 @@ mod header_block;
 mod later_block;
 
 pub use header_block::read_header;
+pub use later_block::PER_BLOCK;
 pub use later_block::read_block;
 pub use later_block::second;
 
 // The bytes of a block, and the place of its check.
-const SIZE: usize = 512;
+pub const SIZE: usize = 512;
 
-const CHECK_AT: usize = 508;
+pub const CHECK_AT: usize = 508;
 
 // What the header gives: the owner byte and the seconds in the book, or the refusal number.
 pub enum Header {

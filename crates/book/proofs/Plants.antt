@@ -15,7 +15,8 @@ use Rattle.sharing.proofs.Sizes.{less, more}
 use Rattle.plant.specs.declared.PlantAnswer.the-variants as plant-answer
 use Rattle.plant.specs.declared.PlantState.{PlantState}
 use Rattle.plant.specs.declared.PlantStep.{PlantStep}
-use Rattle.plant.specs.Refusals.{mostSeconds, mostPower}
+use Rattle.record.specs.Record.{mostSeconds}
+use Rattle.plant.specs.Refusals.{mostPower}
 use Rattle.plant.specs.Rows as plant-rows
 use Rattle.plant.specs.Rows.{sharedDifference}
 use Rattle.plant.specs.State as plant

@@ -10,13 +10,15 @@ use Rattle.numbers.specs.Bounds.{Within}
 use mir.Syntax.{w32, w64}
 use mir.Val.{SFits}
 use Rattle.numbers.proofs.Fit.{fit, within-le, within-lit, within-cond}
+use Rattle.power.specs.Units.{mostReserve}
 use Rattle.record.specs.declared.KindBits.{KindBits}
 use Rattle.record.specs.declared.Record.{Record}
 use Rattle.row.specs.declared.KindRow.{KindRow}
 use Rattle.row.specs.declared.Row.{Row}
 use Rattle.row.specs.declared.sums.Sums.{Sums}
-use Rattle.plant.specs.Refusals.{mostSeconds, mostPower}
-use Rattle.sharing.specs.Sizes.{mostSetpoint, SizedRow}
+use Rattle.record.specs.Record.{mostSeconds}
+use Rattle.plant.specs.Refusals.{mostPower}
+use Rattle.sharing.specs.Sizes.{SizedRow}
 use Rattle.sharing.proofs.Sizes.{less, more}
 use Rattle.book.specs.Seconds.{difference}
 use Rattle.book.specs.Rows.{valueIf, valuesOf}
@@ -32,7 +34,7 @@ three-fit x y z p q r = let h = three mostSummand (3 * mostSummand) x y z (omega
 
 -- an actual value at the unit
 abbrev pub mostActual : ℕ
-mostActual = mostAtUnit + 4 * mostSetpoint
+mostActual = mostAtUnit + 4 * mostReserve
 
 value : (t : Bool) (k : KindRow) → Within mostActual (k .actual .0) → Within mostActual (valueIf t k)
 value t k h = within-cond mostActual t _ _ h (within-lit mostActual _ tt)
@@ -55,8 +57,8 @@ module _ (b : KindBits) (r : Row) (s : SizedRow mostAtUnit r) where
 
 pub actuals-small : (r : Row) → SizedRow mostAtPool r → Within mostInSecond (actualsOf r)
 actuals-small r s =
-    let B = mostAtPool + 4 * mostSetpoint in
-    rw (+ℤ-idr (r .mfrr .actual .0)) (three (mostAtPool + 4 * mostSetpoint) mostInSecond _ _ _ (omega arith) (s .fcr .actual) (s .afrr .actual) (s .mfrr .actual))
+    let B = mostAtPool + 4 * mostReserve in
+    rw (+ℤ-idr (r .mfrr .actual .0)) (three (mostAtPool + 4 * mostReserve) mostInSecond _ _ _ (omega arith) (s .fcr .actual) (s .afrr .actual) (s .mfrr .actual))
 
 pub open-small : (u a b : Row) → SizedRow mostAtUnit u → SizedRow mostAtPool a → SizedRow mostAtPool b → Within mostInSecond (openOf u a b)
 open-small u a b p q r =

@@ -7,7 +7,7 @@ use lib.IntN.{ℤ, pos, _+ℤ_}
 use lib.ListN.{length}
 use Rattle.numbers.specs.Rules.{Rule, refuse, first, differ, orElse}
 use Rattle.record.specs.declared.KindBits.{KindBits}
-use Rattle.record.specs.Record.{recordOf, bitsOf}
+use Rattle.record.specs.Record.{allKinds, recordOf, bitsOf}
 use Rattle.row.specs.declared.KindRow.{KindRow}
 use Rattle.row.specs.declared.Row.{Row}
 use Rattle.plant.specs.Rows as plant
@@ -65,13 +65,9 @@ bRowAt h s =
 
 -- ---- refusals
 
--- the largest owner byte
-abbrev pub mostOwner : ℕ
-mostOwner = 7
-
 -- "a book second not of 108, gets 12 before all else. The book second then gives 16 for an owner above 7; neither names a plant."
 abbrev pub formRules : BookSecond → List Rule
-formRules s = refuse 12 (differ (length (s .bytes)) bookSize) ∷ refuse 16 (ltb mostOwner (s .owner)) ∷ []
+formRules s = refuse 12 (differ (length (s .bytes)) bookSize) ∷ refuse 16 (ltb allKinds (s .owner)) ∷ []
 
 unfoldable pub formNumber : BookSecond → ℕ
 formNumber s = first (formRules s)

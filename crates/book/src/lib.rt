@@ -27,9 +27,6 @@ ghost use Rattle.book.specs.State.{secondOf, fresh, refusedBy, Ready, Po
 // The bytes of a book second.
 const SIZE: usize = 3 * record::SIZE;
 
-// The kinds' bits.
-const MOST_OWNER: u8 = 7;
-
 // The plants of a book.
 pub enum Plant {
     Unit,
@@ -64,7 +61,7 @@ fn form_number(owner: u8, bytes: &[u8]) -> u8
     if bytes.len() != SIZE {
         return 12;
     }
-    if MOST_OWNER < owner {
+    if record::ALL_KINDS < owner {
         return 16;
     }
     0

@@ -6,7 +6,7 @@ use row::Sums;
 ghost use mathlib.Core.Path.{_≡_};
 ghost use lib.IntN.{_+ℤ_};
 ghost use Rattle.numbers.specs.Bounds.{Within};
-ghost use Rattle.plant.specs.Refusals.{mostSeconds};
+ghost use Rattle.record.specs.Record.{mostSeconds};
 ghost use Rattle.sharing.specs.Sizes.{SizedRow};
 ghost use Rattle.book.specs.Seconds.{difference, dueFrom};
 ghost use Rattle.book.specs.State.{mostSummand, mostAtUnit, mostAtPool, actualsOf, openOf, sumsWith, InRange, Readable, SumsReady, Summed};

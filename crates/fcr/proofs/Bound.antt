@@ -12,7 +12,7 @@ use Rattle.numbers.proofs.Fit.{fit, within-neg}
 use Rattle.numbers.proofs.Order.{max-nat}
 use Rattle.numbers.proofs.Parts.{reads, shows, add-nat, sub-nat, mul-nat, one-nat, between}
 use Rattle.power.specs.declared.kilowatts.Kw.{Kw}
-use Rattle.power.specs.Units.{kw, perKw, inGrains, fivePercent}
+use Rattle.power.specs.Units.{kw, perKw, inGrains, fivePercent, mostReserve}
 use Rattle.power.specs.Past.{at, negs, Ranged}
 use Rattle.power.proofs.Past.{at-negs, ranged-cons}
 use Rattle.fcr.specs.Band.{fallOf, riseOf, sumTo, aged, weights, toleranceOf, upper, lower}
@@ -23,7 +23,7 @@ use Rattle.fcr.proofs.Mirror.{rises-mirror, lower-mirror}
 -- ---- the sums
 
 ranged-negs : (h : List Kw) → Ranged h → Ranged (negs h)
-ranged-negs h r = record { ranged = λ k. rw at-negs (within-neg 1000000 (at h k) (r .ranged k)) }
+ranged-negs h r = record { ranged = λ k. rw at-negs (within-neg mostReserve (at h k) (r .ranged k)) }
 
 module _ (n : ℕ) (now : List Kw) (r : Ranged now) (h : n ≤ kept) where
   falls-sign : pos 0 ≤ℤ sumTo n (aged fallOf now)
@@ -37,7 +37,7 @@ module _ (n : ℕ) (now : List Kw) (r : Ranged now) (h : n ≤ kept) where
       let a = falls-sign in
       let b = falls-above in
       let s = r .ranged 0 in
-      between (omega (arith, reads, sub-nat (pos 1000000) (at now 0))) (omega (arith, reads))
+      between (omega (arith, reads, sub-nat (pos mostReserve) (at now 0))) (omega (arith, reads))
 
 pub rises-within : (n : ℕ) (now : List Kw) → Ranged now → n ≤ kept → Within sumMost (sumTo n (aged riseOf now))
 rises-within n now r h = subst (Within sumMost) (rises-mirror n now) (falls-within n (negs now) (ranged-negs now r) h)
@@ -57,8 +57,8 @@ module _ (s held : Kw) (f : Fair s held) (w : ℤ) (b : Within sumMost w) where
 -- the higher s, the less lies above it
 above-within :
     (s held w : ℤ) →
-    Within 1000000 s →
-    Within 1000000 held →
+    Within mostReserve s →
+    Within mostReserve held →
     pos 0 ≤ℤ w →
     w ≤ℤ pos (span s * heaviest) →
     Within (limitMost * perKw) (inGrains s +ℤ toleranceOf held w)
@@ -67,8 +67,8 @@ above-within s held w hs hh p q =
     let k = mul-nat held (perKw * 5 / 100) in
     let t = max-nat (fivePercent held) w in
     let a = add-nat (inGrains s) (toleranceOf held w) in
-    let d = sub-nat (pos 1000000) s in
-    between (omega (arith, reads, one-nat w, one-nat (pos 1000000 -ℤ s))) (omega (arith, reads))
+    let d = sub-nat (pos mostReserve) s in
+    between (omega (arith, reads, one-nat w, one-nat (pos mostReserve -ℤ s))) (omega (arith, reads))
 
 module _ (h : List Kw) (s held : Kw) (r : Ranged h) (f : Fair s held) where
   now-ranged : Ranged (s ∷ h)
@@ -82,4 +82,4 @@ module _ (h : List Kw) (s held : Kw) (r : Ranged h) (f : Fair s held) where
 pub lower-small : (h : List Kw) (s held : Kw) → Ranged h → Fair s held → Within (limitMost * perKw) (lower h s held)
 lower-small h s held r f =
     rw (lower-mirror h s held)
-    (within-neg (limitMost * perKw) _ (upper-small (negs h) (kw (negℤ (s .0))) held (ranged-negs h r) (record { setpoint-range = within-neg 1000000 (s .0) (f .setpoint-range); held-range = f .held-range; held-sign = f .held-sign })))
+    (within-neg (limitMost * perKw) _ (upper-small (negs h) (kw (negℤ (s .0))) held (ranged-negs h r) (record { setpoint-range = within-neg mostReserve (s .0) (f .setpoint-range); held-range = f .held-range; held-sign = f .held-sign })))

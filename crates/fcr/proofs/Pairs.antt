@@ -14,7 +14,7 @@ use Rattle.numbers.specs.Bounds.{Within}
 use Rattle.numbers.proofs.Parts.{up, reads, shows, sub-nat, one-nat}
 use Rattle.numbers.proofs.Test.{flags}
 use Rattle.power.specs.declared.kilowatts.Kw.{Kw}
-use Rattle.power.specs.Units.{perKw, inGrains}
+use Rattle.power.specs.Units.{perKw, inGrains, mostReserve}
 use Rattle.power.specs.Past.{at, Ranged}
 use Rattle.fcr.specs.Band.{fullAge, lastAge, weight, fallOf, sumTo, aged}
 use Rattle.fcr.specs.State.{kept}
@@ -77,10 +77,10 @@ fall-share s a b c = go (ltZ c b && leZ s c) refl
 
 -- what lies between s and the largest setpoint
 abbrev pub span : ℤ → ℕ
-span s = up (pos 1000000 -ℤ s)
+span s = up (pos mostReserve -ℤ s)
 
 -- two falls in a row, from x to y and from y to z
-two-falls : (s x y z : ℤ) → Within 1000000 s → Within 1000000 x → Within 1000000 y → counted s y z + counted s x y ≤ span s
+two-falls : (s x y z : ℤ) → Within mostReserve s → Within mostReserve x → Within mostReserve y → counted s y z + counted s x y ≤ span s
 two-falls s x y z hs hx hy = go (ltZ z y && leZ s z) (ltZ y x && leZ s y) refl refl
   where
     go :
@@ -98,16 +98,16 @@ two-falls s x y z hs hx hy = go (ltZ z y && leZ s z) (ltZ y x && leZ s y) refl r
           flags,
           sub-nat y z,
           sub-nat x y,
-          sub-nat (pos 1000000) s,
+          sub-nat (pos mostReserve) s,
           one-nat (y -ℤ z),
           one-nat (x -ℤ y),
         )
     go true false d e =
         let f = both (ltZ z y) (leZ s z) d in
-        omega (arith, reads, flags, f .0, f .1, sub-nat y z, sub-nat (pos 1000000) s, one-nat (y -ℤ z))
+        omega (arith, reads, flags, f .0, f .1, sub-nat y z, sub-nat (pos mostReserve) s, one-nat (y -ℤ z))
     go false true d e =
         let g = both (ltZ y x) (leZ s y) e in
-        omega (arith, reads, flags, g .0, g .1, sub-nat x y, sub-nat (pos 1000000) s, one-nat (x -ℤ y))
+        omega (arith, reads, flags, g .0, g .1, sub-nat x y, sub-nat (pos mostReserve) s, one-nat (x -ℤ y))
     go false false d e = omega arith
 
 -- ---- sums of numbers that are not negative

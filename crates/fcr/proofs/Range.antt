@@ -12,6 +12,7 @@ use Rattle.numbers.specs.Bounds.{Within}
 use Rattle.numbers.proofs.Parts.{between}
 use Rattle.numbers.proofs.Fit.{fit, within-cond}
 use Rattle.numbers.proofs.Test.{flags}
+use Rattle.power.specs.Units.{mostReserve}
 use Rattle.fcr.specs.Setpoint.{deadBand, fullActivation, setpointOf}
 use Rattle.fcr.specs.Band.{fullAge, lastAge, weight, fallOf}
 use Rattle.fcr.specs.State.{changeMost, weightMost, sumMost}
@@ -21,17 +22,17 @@ pub partly : (f : ℤ) → leZ (pos fullActivation) f ≡ false → leZ f (neg�
 partly f d e = between (omega (arith, flags)) (omega (arith, flags))
 
 -- there less than all of p is asked for
-pub setpoint-within : (p f : ℤ) → Within 1000000 p → Within 1000000 (setpointOf p f)
+pub setpoint-within : (p f : ℤ) → Within mostReserve p → Within mostReserve (setpointOf p f)
 unfolding setpointOf
 setpoint-within p f h =
-    within-cond 1000000 (leZ (negℤ (pos deadBand)) f && leZ f (pos deadBand)) (pos 0) _ (search fit)
+    within-cond mostReserve (leZ (negℤ (pos deadBand)) f && leZ f (pos deadBand)) (pos 0) _ (search fit)
     (go (leZ (pos fullActivation) f) (leZ f (negℤ (pos fullActivation))) refl refl)
   where
     go :
         (t u : Bool) →
         leZ (pos fullActivation) f ≡ t →
         leZ f (negℤ (pos fullActivation)) ≡ u →
-        Within 1000000 (cond t (negℤ p) (cond u p (quotZ (negℤ f *ℤ p) (pos fullActivation))))
+        Within mostReserve (cond t (negℤ p) (cond u p (quotZ (negℤ f *ℤ p) (pos fullActivation))))
     go true u d e = search fit
     go false true d e = h
     go false false d e = let b = partly f d e in search fit depth 9
@@ -45,7 +46,7 @@ unfolding weight
 weight-within a d h =
     let k = left-within a in within-cond weightMost (leb a fullAge) _ _ (search fit) (search fit depth 9)
 
-pub fall-within : (s : ℤ) (a : ℕ) (b c : ℤ) → Within 1000000 b → Within 1000000 c → Within weightMost (fallOf s a b c)
+pub fall-within : (s : ℤ) (a : ℕ) (b c : ℤ) → Within mostReserve b → Within mostReserve c → Within weightMost (fallOf s a b c)
 unfolding fallOf
 fall-within s a b c h k =
     within-cond weightMost (ltZ c b && leZ s c) _ (pos 0) (weight-within a (b -ℤ c) (search fit)) (search fit)

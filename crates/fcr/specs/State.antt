@@ -8,7 +8,7 @@ use lib.Signed.{_≤ℤ_}
 use Rattle.numbers.specs.Bounds.{Within}
 use Rattle.power.specs.declared.kilowatts.Kw.{Kw}
 use Rattle.power.specs.declared.limits.Limits.{Limits}
-use Rattle.power.specs.Units.{perKw, grains, inGrains}
+use Rattle.power.specs.Units.{perKw, grains, inGrains, mostReserve}
 use Rattle.power.specs.Inward.{Published}
 use Rattle.power.specs.Past.{newest, Ranged}
 use Rattle.fcr.specs.declared.FcrState.{FcrState}
@@ -31,8 +31,8 @@ pub record Ready (st : FcrState) : Type 0 where
 
 -- what is asked of a second's numbers (refusals 2 and 3 see to it)
 pub record Fair (s held : Kw) : Type 0 where
-  pub setpoint-range : Within 1000000 (s .0)
-  pub held-range : Within 1000000 (held .0)
+  pub setpoint-range : Within mostReserve (s .0)
+  pub held-range : Within mostReserve (held .0)
   pub held-sign : pos 0 ≤ℤ held .0
 
 -- a second at any state: its band is that of the past that the state holds; then it stands before the others, of which the oldest is dropped
@@ -54,11 +54,11 @@ pub record Stepped (st : FcrState) (s held : Kw) (r : FcrStep) : Type 0 where
 
 pub record IsSetpoint (held deviation r : ℤ) : Type 0 where
   pub is : r ≡ setpointOf held deviation
-  pub small : Within 1000000 r
+  pub small : Within mostReserve r
 
 -- the largest change in kW; the largest weight of one and the largest sum of weights, in grains: 2,000,000 kW and 19,733,333 kW
 abbrev pub changeMost : ℕ
-changeMost = 2000000
+changeMost = 2 * mostReserve
 
 abbrev pub weightMost : ℕ
 weightMost = changeMost * perKw

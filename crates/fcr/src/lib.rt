@@ -5,6 +5,7 @@ ghost use Prim.Native.Nat.{_≤_};
 ghost use lib.IntN.{pos, negℤ, _*ℤ_};
 ghost use lib.Signed.{quotZ};
 ghost use Rattle.numbers.specs.Bounds.{Within};
+ghost use Rattle.power.specs.Units.{mostReserve};
 ghost use Rattle.power.specs.Past.{Ranged};
 ghost use Rattle.fcr.specs.Setpoint.{fullActivation};
 ghost use Rattle.fcr.specs.Band.{lastAge, weight, fallOf, riseOf, toleranceOf};
@@ -48,7 +49,7 @@ struct Sums {
 
 // The setpoint between the dead band and full activation: -f × P / 200, cut toward zero.
 fn droop(held: Kw, deviation: Millihertz) -> Kw
-    requires { ⌜ Within 1000000 (held .0) × Within fullActivation (deviation .0) ⌝ }
+    requires { ⌜ Within mostReserve (held .0) × Within fullActivation (deviation .0) ⌝ }
     ensures { λ r. ⌜ r .0 ≡ quotZ (negℤ (deviation .0) *ℤ held .0) (pos fullActivation) ⌝ }
 {
     let product = -(deviation.0 as i64) * (held.0 as i64);
@@ -57,7 +58,7 @@ fn droop(held: Kw, deviation: Millihertz) -> Kw
 
 // The setpoint, of the held power and the deviation.
 pub fn setpoint(held: Kw, deviation: Millihertz) -> Kw
-    requires { ⌜ Within 1000000 (held .0) ⌝ }
+    requires { ⌜ Within mostReserve (held .0) ⌝ }
     ensures { λ r. ⌜ IsSetpoint (held .0) (deviation .0) (r .0) ⌝ }
 {
     let f = deviation.0;
@@ -88,7 +89,7 @@ fn weigh(d: Kw, age: usize) -> Grains
 
 // What the change from `before` to `sj` adds to the upper tolerance at the setpoint `s`: its weight, if it is a fall to at least `s`.
 fn fall(s: Kw, age: usize, before: Kw, sj: Kw) -> Grains
-    requires { ⌜ Within 1000000 (s .0) × Within 1000000 (before .0) × Within 1000000 (sj .0) × (age ≤ lastAge) ⌝ }
+    requires { ⌜ Within mostReserve (s .0) × Within mostReserve (before .0) × Within mostReserve (sj .0) × (age ≤ lastAge) ⌝ }
     ensures { λ r. ⌜ (r .0 ≡ fallOf (s .0) age (before .0) (sj .0)) × Within weightMost (r .0) ⌝ }
 {
     if sj.is_below(before) {
@@ -105,7 +106,7 @@ fn fall(s: Kw, age: usize, before: Kw, sj: Kw) -> Grains
 
 // What it adds to the lower tolerance, if it is a rise to at most `s`: the mirror.
 fn rise(s: Kw, age: usize, before: Kw, sj: Kw) -> Grains
-    requires { ⌜ Within 1000000 (s .0) × Within 1000000 (before .0) × Within 1000000 (sj .0) × (age ≤ lastAge) ⌝ }
+    requires { ⌜ Within mostReserve (s .0) × Within mostReserve (before .0) × Within mostReserve (sj .0) × (age ≤ lastAge) ⌝ }
     ensures { λ r. ⌜ (r .0 ≡ riseOf (s .0) age (before .0) (sj .0)) × Within weightMost (r .0) ⌝ }
 {
     fall(s.negated(), age, before.negated(), sj.negated())
@@ -113,7 +114,7 @@ fn rise(s: Kw, age: usize, before: Kw, sj: Kw) -> Grains
 
 // The summed weights of the changes up to the last age. At each age `sj` is the setpoint that moves to that place.
 fn weigh_all(past: [Kw; KEPT], s: Kw) -> Sums
-    requires { ⌜ Ranged past × Within 1000000 (s .0) ⌝ }
+    requires { ⌜ Ranged past × Within mostReserve (s .0) ⌝ }
     ensures { λ r. ⌜ Weighed past s r ⌝ }
 {
     let mut kept = past;

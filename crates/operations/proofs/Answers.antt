@@ -3,9 +3,9 @@ use Prim.Native.Nat.{ℕ}
 use mathlib.Core.Path.{_≡_, refl, ap}
 use lib.IntN.{pos}
 use Rattle.record.specs.declared.Record.{Record}
-use Rattle.record.specs.Record.{size, recordOf, readingOf}
+use Rattle.record.specs.Record.{size, mostSeconds, recordOf, readingOf}
 use Rattle.plant.specs.declared.PlantState.{PlantState}
-use Rattle.plant.specs.Refusals.{mostSeconds, recordNumber}
+use Rattle.plant.specs.Refusals.{recordNumber}
 use Rattle.plant.specs.Rows.{numberIn}
 use Rattle.plant.specs.State.{stepBy, callStepIn, recordStepIn, stepIn}
 use Rattle.book.specs.Rows.{formNumber}

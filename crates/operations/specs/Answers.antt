@@ -2,9 +2,8 @@
 -- `answers` of proofs/Answers.antt.
 use mathlib.Core.Path.{_≡_}
 use Rattle.row.specs.declared.sums.Sums.{Sums}
-use Rattle.record.specs.Record.{size}
+use Rattle.record.specs.Record.{size, mostSeconds}
 use Rattle.plant.specs.declared.PlantState.{PlantState}
-use Rattle.plant.specs.Refusals.{mostSeconds}
 use Rattle.book.specs.Seconds.{bookSize}
 use Rattle.operations.specs.Numbers.{plantNumber, bookNumber, lineNumber, blank, blankNumber}
 

@@ -16,16 +16,8 @@ ghost use Rattle.book.specs.Rows.{numberIn};
 ghost use Rattle.block.specs.Block.{blockSays};
 ghost use Rattle.operations.specs.Numbers.{plantNumber, bookNumber, lineNumberIn, lineNumber, saidNumber, blankBlock, blankNumber};
 
-// The seconds of the longest book.
-const MOST_SECONDS: u32 = 90_000;
-
 // The seconds of the book that a block is read for: it has one block.
-const SECONDS: u32 = 4;
-
-// The bytes of a block, and the place of its check.
-const BLOCK_SIZE: usize = 512;
-
-const CHECK_AT: usize = 508;
+const SECONDS: u32 = block::PER_BLOCK as u32;
 
 // The bytes of a book second.
 const SECOND_SIZE: usize = 3 * record::SIZE;
@@ -95,13 +87,13 @@ fn line_number(buf: &mut [u8], sums: Sums) -> u8
 }
 
 // A block with no second in it, its number and its check.
-fn blank_block(number: u8) -> [u8; BLOCK_SIZE]
+fn blank_block(number: u8) -> [u8; block::SIZE]
     requires { ⌜ number < 255 ⌝ }
     ensures { λ r. ⌜ r ≡ blankBlock number ⌝ }
 {
-    let mut bytes = [0u8; BLOCK_SIZE];
+    let mut bytes = [0u8; block::SIZE];
     bytes[0] = number;
-    bytes[CHECK_AT] = 1 + number;
+    bytes[block::CHECK_AT] = 1 + number;
     bytes
 }
 
@@ -140,7 +132,7 @@ fn plant_after_all() {
     let record = [0u8; record::SIZE];
     report(
         b"plant-second-90001",
-        plant_number(after_blank(MOST_SECONDS), &record),
+        plant_number(after_blank(record::MOST_SECONDS), &record),
     );
 }
 

@@ -15,7 +15,7 @@ use Rattle.power.proofs.Past.{ranged-none, ranged-cons}
 use Rattle.record.specs.declared.Record.{Record}
 use Rattle.record.specs.declared.Reading.{Reading}
 use Rattle.record.specs.declared.Reading.the-variants as reading
-use Rattle.record.specs.Record.{size, recordOf, readingOf}
+use Rattle.record.specs.Record.{size, mostSeconds, recordOf, readingOf}
 use Rattle.fcr.specs.State as fcr
 use Rattle.fcr.proofs.Range.{setpoint-within}
 use Rattle.fcr.proofs.Claims as fcr-claims
@@ -30,7 +30,7 @@ use Rattle.mfrr.specs.declared.MfrrStep.{MfrrStep}
 use Rattle.mfrr.proofs.Claims as mfrr-claims
 use Rattle.plant.specs.declared.PlantStep.{PlantStep}
 use Rattle.plant.specs.Seconds.{History, fcrSetpoint, fcrPast, afrrSecond, afrrPast, mfrrSecond, mfrrPast}
-use Rattle.plant.specs.Refusals.{mostSeconds, recordRules, recordNumber}
+use Rattle.plant.specs.Refusals.{recordRules, recordNumber}
 use Rattle.plant.specs.Ranges.{Passed}
 use Rattle.plant.specs.Rows.{mfrrAt, kindsAt, offRules, offNumber, recordNumberAt, numberAt, Accepted, rowBy, rowAt, answerBy, answerAt, grownBy, grown, stateOf}
 use Rattle.plant.specs.State.{kindsWith, kindsIn, grownIn, stepBy, givenIn, kindsStepIn, callStepIn, recordStepIn, readIn, stepIn, Ready}

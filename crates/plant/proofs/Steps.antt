@@ -164,7 +164,7 @@ module _ (st : PlantState) (x : Record) (m w : ℤ) (record-passed : RecordPasse
           sized =
               rw ek
               (record {
-                setpoint = within-le mfrr-signal.powerMost sharing.mostSetpoint _ (g .setpoint-range) tt;
+                setpoint = g .setpoint-range;
                 low = within-le mfrr.limitMost sharing.mostLimit _ (g .small .0) tt;
                 high = within-le mfrr.limitMost sharing.mostLimit _ (g .small .1) tt;
               });

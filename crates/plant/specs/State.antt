@@ -9,7 +9,7 @@ use Rattle.power.specs.declared.limits.Band.{Band}
 use Rattle.record.specs.declared.Record.{Record}
 use Rattle.record.specs.declared.Reading.{Reading}
 use Rattle.record.specs.declared.Reading.the-variants as reading
-use Rattle.record.specs.Record.{recordOf, readingOf, bitsOf}
+use Rattle.record.specs.Record.{mostSeconds, recordOf, readingOf, bitsOf}
 use Rattle.row.specs.declared.Row.{Row}
 use Rattle.sharing.specs.declared.kinds.Kind.{Kind}
 use Rattle.sharing.specs.Sizes.{SizedKind, SizedKinds, SizedRow}
@@ -29,7 +29,7 @@ use Rattle.plant.specs.declared.PlantAnswer.the-variants as answer
 use Rattle.plant.specs.declared.PlantState.{PlantState}
 use Rattle.plant.specs.declared.PlantStep.{PlantStep}
 use Rattle.plant.specs.Seconds.{History, fcrSetpoint, afrrSecond, mfrrSecond}
-use Rattle.plant.specs.Refusals.{mostSeconds, mostPower, recordNumber}
+use Rattle.plant.specs.Refusals.{mostPower, recordNumber}
 use Rattle.plant.specs.Ranges.{Passed}
 use Rattle.plant.specs.Rows.{offNumber, sharedDifference, rowBy, Accepted, stateOf, OverPast}
 

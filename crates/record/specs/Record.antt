@@ -14,6 +14,14 @@ use Rattle.record.specs.declared.KindBits.{KindBits}
 abbrev pub size : ℕ
 size = 36
 
+-- "books of up to 90,000 seconds": what a plant and a header may count
+abbrev pub mostSeconds : ℕ
+mostSeconds = 90000
+
+-- the bits of all three kinds: no status and no owner is above it
+abbrev pub allKinds : ℕ
+allKinds = 7
+
 -- "4 bytes each, at: 0 measured, 4 working point, 8 FCR held, 12 aFRR held up, 16 aFRR held down (a magnitude), 20 aFRR setpoint,
 -- 24 mFRR target, 28 delivery end (unsigned). Then 32 frequency deviation in mHz (2 bytes, signed), 34 status .., 35 call"
 unfoldable pub recordOf : List ℕ → Record

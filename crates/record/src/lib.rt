@@ -10,6 +10,12 @@ ghost use Rattle.record.specs.Record.{size, recordOf, readingOf, numberI
 // The bytes of a plant second.
 pub const SIZE: usize = 36;
 
+// The seconds of the longest book.
+pub const MOST_SECONDS: u32 = 90_000;
+
+// The bits of all three kinds, the largest status and owner byte.
+pub const ALL_KINDS: u8 = 7;
+
 pub struct Record {
     pub measured: Kw,
     pub working_point: Kw,

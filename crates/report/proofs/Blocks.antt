@@ -12,7 +12,8 @@ use Rattle.block.specs.declared.Header.{Header}
 use Rattle.block.specs.declared.Header.the-variants as header
 use Rattle.block.specs.Header.{headerOf, headerSays}
 use Rattle.block.specs.Said.{refused, answered}
-use Rattle.block.specs.Places.{blockSize, perBlock, mostSeconds}
+use Rattle.record.specs.Record.{mostSeconds}
+use Rattle.block.specs.Places.{blockSize, perBlock}
 use Rattle.block.specs.Block.{blockNumber, blockOf, blockSays, countOf}
 use Rattle.block.proofs.Taken.{header-fields, block-fields, block-zero, whole-block}
 use Rattle.line.proofs.Puts.{loosen, none}

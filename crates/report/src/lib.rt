@@ -21,7 +21,7 @@ ghost use Prim.Native.Nat.{_+_, _≤_};
 ghost use mathlib.Core.Path.{_≡_};
 ghost use lib.ListN.{length};
 ghost use Rattle.book.specs.State.{Ready};
-ghost use Rattle.block.specs.Places.{mostSeconds};
+ghost use Rattle.record.specs.Record.{mostSeconds};
 ghost use Rattle.report.specs.Text.{blockRoom};
 ghost use Rattle.report.specs.Running.{pastLast, BlocksIn};
 
@@ -31,10 +31,8 @@ pub enum Form {
     Figures,
 }
 
-// The bytes of a block, and its seconds.
-const BLOCK: usize = 512;
-
-const PER_BLOCK: u32 = 4;
+// The seconds of a block.
+const PER_BLOCK: u32 = block::PER_BLOCK as u32;
 
 // The bytes that a line takes at most, and those that a block's lines take, three a second; the last line takes no more.
 const LINE_ROOM: usize = 256;
@@ -156,7 +154,7 @@ fn finish(run: Run, out: &mut [u8])
 
 // Prints the book on standard input.
 pub fn print_book(form: Form) {
-    let mut block = [0u8; BLOCK];
+    let mut block = [0u8; block::SIZE];
     let mut out = io::large_buffer();
     let run = run_book(form, &mut block, &mut out);
     finish(run_end(run, &mut block), &mut out);

@@ -13,7 +13,7 @@ use mir.Facts.{fits-le, fits-lit}
 use Rattle.numbers.specs.Bounds.{Within}
 use Rattle.numbers.proofs.Fit.{fit}
 use Rattle.power.specs.declared.kilowatts.Kw.{Kw}
-use Rattle.power.specs.Units.{kw}
+use Rattle.power.specs.Units.{kw, mostReserve}
 use Rattle.row.specs.declared.KindRow.{KindRow}
 use Rattle.row.specs.declared.Row.{Row}
 use Rattle.sharing.specs.declared.shares.Weighed.{Weighed}
@@ -22,12 +22,12 @@ use Rattle.sharing.specs.declared.kinds.Kind.{Kind}
 use Rattle.sharing.specs.Shares.{sumOf, toleranceOf, tolerances, total, shares}
 use Rattle.sharing.specs.Steps.{Fitting, sharesIn}
 use Rattle.sharing.specs.Rows.{errorOf, upward, toward, weighedOf, weighed, signed, kindRow, rowsBy, kindRows, openOf, three, rowWith, rowOf}
-use Rattle.sharing.specs.Sizes.{mostPower, mostSetpoint, mostLimit, SizedKind, SizedKinds, SizedRow, RowIs}
+use Rattle.sharing.specs.Sizes.{mostPower, mostLimit, SizedKind, SizedKinds, SizedRow, RowIs}
 use Rattle.sharing.proofs.Sizes.{less, more, signed-within, error-within, sized}
 
 -- the largest error, and the largest tolerance
 abbrev pub mostError : ℕ
-mostError = 2 * mostPower + 3 * mostSetpoint
+mostError = 2 * mostPower + 3 * mostReserve
 
 abbrev mostTolerance : ℕ
 mostTolerance = 2 * mostLimit
@@ -60,7 +60,7 @@ fitting e t a b c ks h s q =
 pub row-fits : (t : Bool) (k : Kind) (x : ℕ) → SizedKind k → x ≤ mostError → SFits w32 (pos x) × SFits w32 (k .setpoint .0 +ℤ signed t x)
 row-fits t k x s h =
     let p : Within mostError (pos x) = record { within = h } in
-    let q = more mostSetpoint mostError (mostError + mostSetpoint) (k .setpoint .0) (signed t x) (omega arith) (s .setpoint) (signed-within mostError t x h) in
+    let q = more mostReserve mostError (mostError + mostReserve) (k .setpoint .0) (signed t x) (omega arith) (s .setpoint) (signed-within mostError t x h) in
     (search fit, search fit)
 
 -- what the code has of the error e: its direction, its size n, the shares

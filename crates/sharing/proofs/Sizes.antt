@@ -8,16 +8,17 @@ use lib.IntN.{ℤ, pos, natAbs, _+ℤ_, _-ℤ_}
 use Rattle.numbers.specs.Bounds.{Within}
 use Rattle.numbers.proofs.Fit.{within-lit, within-cond}
 use Rattle.numbers.proofs.Parts.{nat-within, within-nat, add-nat, sub-nat}
+use Rattle.power.specs.Units.{mostReserve}
 use Rattle.sharing.specs.declared.kinds.Kind.{Kind}
 use Rattle.sharing.specs.Shares.{sumOf}
 use Rattle.sharing.specs.Rows.{someOn, setpointOn, errorOf, upward, weighed, sharesOf, signed, kindRow, rowsBy, kindRows, openOf, three, rowWith, rowOf}
-use Rattle.sharing.specs.Sizes.{mostSetpoint, SizedKind, SizedKinds, SizedKindRow, SizedRow}
+use Rattle.sharing.specs.Sizes.{SizedKind, SizedKinds, SizedKindRow, SizedRow}
 use Rattle.sharing.proofs.Shared.{sum-le}
 use Rattle.sharing.proofs.Three.{OfThree}
 use Rattle.sharing.proofs.Rows.{signed-size, shares-three}
 
-setpoint-on : (k : Kind) → SizedKind k → Within mostSetpoint (setpointOn k)
-setpoint-on k s = within-cond mostSetpoint (k .on) (k .setpoint .0) (pos 0) (s .setpoint) (within-lit mostSetpoint (pos 0) tt)
+setpoint-on : (k : Kind) → SizedKind k → Within mostReserve (setpointOn k)
+setpoint-on k s = within-cond mostReserve (k .on) (k .setpoint .0) (pos 0) (s .setpoint) (within-lit mostReserve (pos 0) tt)
 
 pub less : (A B C : ℕ) (d s : ℤ) → A + B ≤ C → Within A d → Within B s → Within C (d -ℤ s)
 less A B C d s h p q = nat-within (omega (arith, sub-nat d s, within-nat p, within-nat q))
@@ -27,19 +28,19 @@ more A B C d s h p q = nat-within (omega (arith, add-nat d s, within-nat p, with
 
 -- the error, kind by kind
 module _ (D : ℕ) (d : ℤ) (a b c : Kind) (w : Within D d) (s : SizedKinds a b c) where
-  pub past-fcr : Within (D + mostSetpoint) (errorOf d (a ∷ []))
-  past-fcr = less D mostSetpoint _ _ _ (omega arith) w (setpoint-on a (s .fcr))
+  pub past-fcr : Within (D + mostReserve) (errorOf d (a ∷ []))
+  past-fcr = less D mostReserve _ _ _ (omega arith) w (setpoint-on a (s .fcr))
 
-  pub past-afrr : Within (D + 2 * mostSetpoint) (errorOf d (a ∷ b ∷ []))
-  past-afrr = less (D + mostSetpoint) mostSetpoint _ _ _ (omega arith) past-fcr (setpoint-on b (s .afrr))
+  pub past-afrr : Within (D + 2 * mostReserve) (errorOf d (a ∷ b ∷ []))
+  past-afrr = less (D + mostReserve) mostReserve _ _ _ (omega arith) past-fcr (setpoint-on b (s .afrr))
 
-  pub error-within : Within (D + 3 * mostSetpoint) (errorOf d (three a b c))
-  error-within = less (D + 2 * mostSetpoint) mostSetpoint _ _ _ (omega arith) past-afrr (setpoint-on c (s .mfrr))
+  pub error-within : Within (D + 3 * mostReserve) (errorOf d (three a b c))
+  error-within = less (D + 2 * mostReserve) mostReserve _ _ _ (omega arith) past-afrr (setpoint-on c (s .mfrr))
 
 pub signed-within : (B : ℕ) (t : Bool) (x : ℕ) → x ≤ B → Within B (signed t x)
 signed-within B t x h = record { within = rw (signed-size t x) h }
 
-kind-sized : (D : ℕ) (t : Bool) (k : Kind) (x : ℕ) → SizedKind k → x ≤ D + 3 * mostSetpoint → SizedKindRow D (kindRow t k x)
+kind-sized : (D : ℕ) (t : Bool) (k : Kind) (x : ℕ) → SizedKind k → x ≤ D + 3 * mostReserve → SizedKindRow D (kindRow t k x)
 kind-sized D t k x s h = go (k .on) refl
   where
     zero : (B : ℕ) → Within B (pos 0)
@@ -52,12 +53,12 @@ kind-sized D t k x s h = go (k .on) refl
           setpoint = s .setpoint;
           low = s .low;
           high = s .high;
-          share = signed-within (D + 3 * mostSetpoint) t x h;
-          actual = more mostSetpoint (D + 3 * mostSetpoint) (D + 4 * mostSetpoint) _ _ (omega arith) (s .setpoint) (signed-within (D + 3 * mostSetpoint) t x h);
+          share = signed-within (D + 3 * mostReserve) t x h;
+          actual = more mostReserve (D + 3 * mostReserve) (D + 4 * mostReserve) _ _ (omega arith) (s .setpoint) (signed-within (D + 3 * mostReserve) t x h);
         })
     go false q = rw q (record { setpoint = zero _; low = zero _; high = zero _; share = zero _; actual = zero _ })
 
-rows-sized : (D : ℕ) (t : Bool) (a b c : Kind) (xs : List ℕ) (o : ℤ) → SizedKinds a b c → Within D o → OfThree xs → sumOf xs ≤ D + 3 * mostSetpoint
+rows-sized : (D : ℕ) (t : Bool) (a b c : Kind) (xs : List ℕ) (o : ℤ) → SizedKinds a b c → Within D o → OfThree xs → sumOf xs ≤ D + 3 * mostReserve
     → SizedRow D (rowWith (rowsBy t (three a b c) xs) o)
 rows-sized D t a b c xs o s w h l =
     let q = ap sumOf (h .is) in

@@ -8,7 +8,7 @@ use mir.Val.{SFits}
 use Rattle.numbers.specs.Bounds.{Within}
 use Rattle.numbers.specs.Order.{maxZ}
 use Rattle.numbers.proofs.Fit.{fit, fits-by, within-le}
-use Rattle.power.specs.Units.{inGrains}
+use Rattle.power.specs.Units.{inGrains, mostReserve}
 use Rattle.afrr.specs.Band.{reach, reaction, spread, least, largest, smallest, ago, gradientBy}
 use Rattle.afrr.specs.State.{gradientMost}
 use Rattle.afrr.proofs.Parts.{gradient-within}
@@ -23,10 +23,10 @@ module _ (s : tie.Start) where
   abbrev lowest : ℤ
   lowest = smallest (ago reaction reach (s .args .past))
 
-  highest-within : Within 1000000 highest
+  highest-within : Within mostReserve highest
   highest-within = largest-within reaction reach (s .args .past) (s .pre)
 
-  lowest-within : Within 1000000 lowest
+  lowest-within : Within mostReserve lowest
   lowest-within = smallest-within reaction reach (s .args .past) (s .pre)
 
   change-fits : SFits w32 (highest -ℤ lowest)

@@ -9,7 +9,7 @@ use lib.ListN.{length, getD}
 use borrow.Author.Needs.{needs}
 use Rattle.numbers.specs.Bounds.{Within}
 use Rattle.power.specs.declared.kilowatts.Kw.{Kw}
-use Rattle.power.specs.Units.{kw}
+use Rattle.power.specs.Units.{kw, mostReserve}
 use Rattle.power.specs.Past.{at, Ranged}
 use Rattle.power.proofs.Past.{ranged-cons}
 use Rattle.fcr.specs.Band.{lastAge, fallOf, riseOf, sumTo, aged}
@@ -73,10 +73,10 @@ module _ (l : tie.At-loop Inv-loop μ-loop) where
 
     -- what both directions ask
     asked :
-        Within 1000000 (s .0) × Within 1000000 (at (l .loop .kept) age) × Within 1000000 (l .loop .sj .0) × (age ≤ lastAge)
+        Within mostReserve (s .0) × Within mostReserve (at (l .loop .kept) age) × Within mostReserve (l .loop .sj .0) × (age ≤ lastAge)
     asked = (
       l .before .pre .1,
-      subst (λ (k : Kw). Within 1000000 (k .0)) (sym before-is) (l .before .pre .0 .ranged age),
+      subst (λ (k : Kw). Within mostReserve (k .0)) (sym before-is) (l .before .pre .0 .ranged age),
       rw (l .loop .inv .4) (now-ranged .ranged age),
       omega arith,
     )

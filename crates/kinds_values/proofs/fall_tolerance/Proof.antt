@@ -10,7 +10,7 @@ use borrow.Author.Needs.{needs}
 use Rattle.numbers.specs.Bounds.{Within}
 use Rattle.numbers.proofs.Fit.{fit, within-lit}
 use Rattle.power.specs.declared.kilowatts.Kw.{Kw}
-use Rattle.power.specs.Units.{kw}
+use Rattle.power.specs.Units.{kw, mostReserve}
 use Rattle.fcr.specs.declared.FcrState.{FcrState}
 use Rattle.fcr.specs.declared.FcrStep.{FcrStep}
 use Rattle.fcr.specs.Band.{bandAt}
@@ -34,7 +34,7 @@ follows : (h : List Kw) (st : FcrState) (r : FcrStep) → st ≡ stateOf h → r
 follows h st r e f = f ∙ ap (λ (t : FcrState). stepIn t s held) e ∙ claims .follows h s held
 
 fair : Fair s held
-fair = record { setpoint-range = within-lit 1000000 (s .0) tt; held-range = within-lit 1000000 (held .0) tt; held-sign = record { le = tt } }
+fair = record { setpoint-range = within-lit mostReserve (s .0) tt; held-range = within-lit mostReserve (held .0) tt; held-sign = record { le = tt } }
 
 abbrev Inv-loop : tie.InvT-loop
 Inv-loop age held₀ s₀ step₀ a₀ step a = (a ≤ age) × Ready (step .state) × Within limitMost (step .band .high .0) × (step ≡ answer (replicate a s))

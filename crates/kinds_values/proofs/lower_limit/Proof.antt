@@ -7,6 +7,7 @@ use native.Mathlib.Omega.{arith}
 use lib.ListN.{replicate}
 use borrow.Author.Needs.{needs}
 use Rattle.numbers.proofs.Fit.{within-lit}
+use Rattle.power.specs.Units.{mostReserve}
 use Rattle.afrr.specs.declared.Second.{Second}
 use Rattle.afrr.specs.declared.AfrrState.{AfrrState}
 use Rattle.afrr.specs.declared.AfrrStep.{AfrrStep}
@@ -30,9 +31,9 @@ follows h st r e f = f ∙ ap (λ (t : AfrrState). stepIn t x) e ∙ claims .fol
 fair : Fair x
 fair =
     record {
-      setpoint-range = within-lit 1000000 (x .setpoint .0) tt;
-      up-range = within-lit 1000000 (x .up .0) tt;
-      down-range = within-lit 1000000 (x .down .0) tt;
+      setpoint-range = within-lit mostReserve (x .setpoint .0) tt;
+      up-range = within-lit mostReserve (x .up .0) tt;
+      down-range = within-lit mostReserve (x .down .0) tt;
       up-sign = record { le = tt };
       down-sign = record { le = tt };
     }
