@@ -1,4 +1,4 @@
--- `sharing::plant::row_of` meets its contract. Assumes nothing.
+-- `sharing::plant_row::row_of` meets its contract. Assumes nothing.
 use mathlib.Core.Path.{_≡_, ap, _∙_}
 use mathlib.Core.Bool.{Bool}
 use mathlib.Core.List.{List, [], _∷_}
@@ -13,8 +13,8 @@ use Rattle.sharing.specs.Rows.{errorOf, weighed, openOf, three}
 use Rattle.sharing.specs.Sizes.{mostPower, SizedKinds}
 use Rattle.sharing.proofs.Answer.{mostError, due-within, size-most, fitting, row-fits, row-is, answer}
 use borrow.Author.Needs.{needs}
-use Rattle.sharing.proofs.plant.row_of.Statement.{statement}
-use Rattle.sharing.proofs.plant.row_of.Tie as tie
+use Rattle.sharing.proofs.plant_row.row_of.Statement.{statement}
+use Rattle.sharing.proofs.plant_row.row_of.Tie as tie
 
 module _ (s : tie.Start) where
   abbrev d : ℤ
