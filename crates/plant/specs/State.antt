@@ -12,7 +12,7 @@ use Rattle.record.specs.declared.Reading.the-variants as reading
 use Rattle.record.specs.Record.{mostSeconds, recordOf, readingOf, bitsOf}
 use Rattle.row.specs.declared.Row.{Row}
 use Rattle.sharing.specs.declared.kinds.Kind.{Kind}
-use Rattle.sharing.specs.Sizes.{SizedKind, SizedKinds, SizedRow}
+use Rattle.sharing.specs.Sizes.{SizedKinds, SizedRow}
 use Rattle.fcr.specs.declared.FcrState.{FcrState}
 use Rattle.fcr.specs.declared.FcrStep.{FcrStep}
 use Rattle.fcr.specs.State as fcr
@@ -30,7 +30,6 @@ use Rattle.plant.specs.declared.PlantState.{PlantState}
 use Rattle.plant.specs.declared.PlantStep.{PlantStep}
 use Rattle.plant.specs.Seconds.{History, fcrSetpoint, afrrSecond, mfrrSecond}
 use Rattle.plant.specs.Refusals.{mostPower, recordNumber}
-use Rattle.plant.specs.Ranges.{Passed}
 use Rattle.plant.specs.Rows.{offNumber, sharedDifference, rowBy, Accepted, stateOf, OverPast}
 
 -- what each kind's step gives for record x
@@ -141,26 +140,6 @@ pub record Given (x : Record) (m w : ℤ) (q : Row) : Type 0 where
 pub record StepFacts (x : Record) (m w : ℤ) (r : PlantStep) : Type 0 where
   pub ready : Ready (r .state)
   pub given : {q : Row} → r .answer ≡ answer.Row q → Given x m w q
-
--- a record to which none of 1 to 7 applies
-pub record RecordPassed (st : PlantState) (x : Record) (m w : ℤ) : Type 0 where
-  pub ready : Ready st
-  pub passed : Passed (st .seconds) x
-  pub added : Added m w
-
-pub record CallStepped (st : PlantState) (x : Record) (m w : ℤ) (r : PlantStep) : Type 0 where
-  pub is : r ≡ callStepIn st x m w
-  pub facts : StepFacts x m w r
-
--- and none of 8 to 10: mFRR gave the kind k and its next state
-pub record CallPassed (st : PlantState) (x : Record) (k : Kind) (next : MfrrState) (m w : ℤ) : Type 0 where
-  pub record-passed : RecordPassed st x m w
-  pub next-ready : mfrr.Ready next
-  pub sized : SizedKind k
-
-pub record KindsStepped (st : PlantState) (x : Record) (k : Kind) (next : MfrrState) (m w : ℤ) (r : PlantStep) : Type 0 where
-  pub is : r ≡ kindsStepIn st x k next m w
-  pub facts : StepFacts x m w r
 
 -- the plant second's contract, for every state that it may be given
 pub record Stepped (st : PlantState) (s : List ℕ) (m w : ℤ) (r : PlantStep) : Type 0 where
