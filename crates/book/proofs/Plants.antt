@@ -28,8 +28,8 @@ use Rattle.book.specs.declared.BookStep.{BookStep}
 use Rattle.book.specs.declared.Plant.the-variants.{Unit, A, B}
 use Rattle.book.specs.Seconds.{BookSecond, unitBytes, aBytes, bBytes, dueFrom, dueOf}
 use Rattle.book.specs.Rows.{valuesOf, soldByA, soldByB, unitPoint}
-use Rattle.book.specs.State.{secondOf, unitIn, aIn, bIn, sumsWith, refusedBy, plantsIn, mostAtUnit, mostAtPool, mostValues, Ready, SumsReady, InRange, Summed, Pooled, PartsOf, PlantsStepped}
-use Rattle.book.proofs.Sizes.{values-small, due-small, sums-longer, sums-more}
+use Rattle.book.specs.State.{secondOf, unitIn, aIn, bIn, sumsWith, refusedBy, plantsIn, mostAtUnit, mostAtPool, Ready, SumsReady, InRange, Summed, PartsOf, PlantsStepped}
+use Rattle.book.proofs.Sizes.{due-small, sums-longer, sums-more}
 
 -- ---- sizes of an accepted second
 
@@ -69,42 +69,36 @@ module _ (k : Book) (o : ℕ) (u a b : List ℕ) (ready : Ready k) (pu : PlantSt
     pub unit-sized : SizedRow mostAtUnit ru
     unit-sized = sized (k .unit) u (pos 0) (pos 0) pu eu ru eru 0 0 mostAtUnit (omega arith) (within-lit 0 (pos 0) tt) (within-lit 0 (pos 0) tt)
 
-    point-small : Within mostPower point
+    pub point-small : Within mostPower point
     point-small = rw ex (given-range (k .unit) u (pos 0) (pos 0) pu eu ru eru .working-point)
 
     point-is : (s : List ℕ) → PartsOf s u a b → point ≡ unitPoint s
     point-is s parts = ap (λ (y : Record). y .«working_point» .0) (ex ∙ ap recordOf (parts .unit-part))
 
-    -- a pool's second with the values v
-    pub pooled : (pool : PlantState) (v : ℤ) → plant.Ready pool → Within mostValues v → Pooled pool point v
-    pooled pool v r h = record { ready = r; point-small = point-small; values-small = h }
+    -- a pool's second, where m is added to its measured
+    pool-is :
+        (pool : PlantState) (l l′ : List ℕ) (v m : ℤ) (p : PlantStep) → plant.Stepped pool l m point p → l ≡ l′ → m ≡ point +ℤ v
+        → (s : List ℕ) → PartsOf s u a b → p ≡ plant.stepIn pool l′ (unitPoint s +ℤ v) (unitPoint s)
+    pool-is pool l l′ v m p e el em s parts =
+        let n : m ≡ unitPoint s +ℤ v = em ∙ (λ i. point-is s parts i +ℤ v) in
+        e .is ∙ (λ i. plant.stepIn pool (el i) (n i) (point-is s parts i))
 
-    pool-sized : (pool : PlantState) (l : List ℕ) (v : ℤ) (p : PlantStep) → plant.Stepped pool l (point +ℤ v) point p → (q : Row) → p .answer ≡ plant-answer.Row q → Within mostValues v → SizedRow mostAtPool q
-    pool-sized pool l v p e q eq h =
-        sized pool l (point +ℤ v) point p e q eq mostAdded mostPower mostAtPool (omega arith)
-        (more mostPower mostValues mostAdded _ _ (omega arith) point-small h) point-small
+    pool-sized : (pool : PlantState) (l : List ℕ) (m : ℤ) (p : PlantStep) → plant.Stepped pool l m point p → (q : Row) → p .answer ≡ plant-answer.Row q → Within mostAdded m → SizedRow mostAtPool q
+    pool-sized pool l m p e q eq h = sized pool l m point p e q eq mostAdded mostPower mostAtPool (omega arith) h point-small
 
-    module _ (va : ℤ) (eva : va ≡ valuesOf (soldByA o) ru) (pa : PlantStep) (ea : plant.Stepped (k .a) a (point +ℤ va) point pa) where
-      pub a-values-small : Within mostValues va
-      a-values-small = rw eva (values-small (soldByA o) ru unit-sized)
-
+    module _ (ma : ℤ) (ema : (ma ≡ point +ℤ valuesOf (soldByA o) ru) × Within mostAdded ma) (pa : PlantStep) (ea : plant.Stepped (k .a) a ma point pa) where
       a-is : (s : List ℕ) → PartsOf s u a b → pa ≡ aIn k (secondOf o s) ru
       unfolding aIn
-      a-is s parts =
-          ea .is ∙ (λ i. plant.stepIn (k .a) (parts .a-part i) (point-is s parts i +ℤ eva i) (point-is s parts i))
+      a-is s parts = pool-is (k .a) a (aBytes s) (valuesOf (soldByA o) ru) ma pa ea (parts .a-part) (ema .0) s parts
 
       pub a-refused : {n r : ℕ} → pa .answer ≡ plant-answer.Refused n → r ≡ plant-rows.numberIn (pa .answer) → PlantsStepped k o u a b (refusedBy k A r)
       unfolding plantsIn
       a-refused e h = record { is = λ s parts. rw (← (unit-is s parts), eru, ← (a-is s parts), h, e); ready = ready }
 
-      module _ {ra : Row} (era : pa .answer ≡ plant-answer.Row ra) (vb : ℤ) (evb : vb ≡ valuesOf (soldByB o) ru) (pb : PlantStep) (eb : plant.Stepped (k .b) b (point +ℤ vb) point pb) where
-        b-values-small : Within mostValues vb
-        b-values-small = rw evb (values-small (soldByB o) ru unit-sized)
-
+      module _ {ra : Row} (era : pa .answer ≡ plant-answer.Row ra) (mb : ℤ) (emb : (mb ≡ point +ℤ valuesOf (soldByB o) ru) × Within mostAdded mb) (pb : PlantStep) (eb : plant.Stepped (k .b) b mb point pb) where
         b-is : (s : List ℕ) → PartsOf s u a b → pb ≡ bIn k (secondOf o s) ru
         unfolding bIn
-        b-is s parts =
-            eb .is ∙ (λ i. plant.stepIn (k .b) (parts .b-part i) (point-is s parts i +ℤ evb i) (point-is s parts i))
+        b-is s parts = pool-is (k .b) b (bBytes s) (valuesOf (soldByB o) ru) mb pb eb (parts .b-part) (emb .0) s parts
 
         pub b-refused : {n r : ℕ} → pb .answer ≡ plant-answer.Refused n → r ≡ plant-rows.numberIn (pb .answer) → PlantsStepped k o u a b (refusedBy k B r)
         unfolding plantsIn
@@ -115,8 +109,8 @@ module _ (k : Book) (o : ℕ) (u a b : List ℕ) (ready : Ready k) (pu : PlantSt
           pub ranges : InRange (recordOf u) × InRange (recordOf a) × InRange (recordOf b)
           ranges = (
             given-range (k .unit) u (pos 0) (pos 0) pu eu ru eru,
-            given-range (k .a) a (point +ℤ va) point pa ea ra era,
-            given-range (k .b) b (point +ℤ vb) point pb eb rb erb,
+            given-range (k .a) a ma point pa ea ra era,
+            given-range (k .b) b mb point pb eb rb erb,
           )
 
           module _ (d : ℤ) (ed : d ≡ dueFrom u a b) where
@@ -124,8 +118,8 @@ module _ (k : Book) (o : ℕ) (u a b : List ℕ) (ready : Ready k) (pu : PlantSt
             summed =
                 record {
                   unit-sized = unit-sized;
-                  a-sized = pool-sized (k .a) a va pa ea ra era a-values-small;
-                  b-sized = pool-sized (k .b) b vb pb eb rb erb b-values-small;
+                  a-sized = pool-sized (k .a) a ma pa ea ra era (ema .1);
+                  b-sized = pool-sized (k .b) b mb pb eb rb erb (emb .1);
                   due-small = rw ed (due-small _ _ _ (ranges .0) (ranges .1) (ranges .2));
                 }
 

@@ -158,11 +158,6 @@ mostValues = 36000000
 abbrev pub mostSummand : ℕ
 mostSummand = 100000000
 
-pub record Pooled (pool : PlantState) (point values : ℤ) : Type 0 where
-  pub ready : plant.Ready pool
-  pub point-small : Within mostPower point
-  pub values-small : Within mostValues values
-
 -- the rows and what is due in an accepted second
 pub record Summed (u a b : Row) (d : ℤ) : Type 0 where
   pub unit-sized : SizedRow mostAtUnit u

@@ -6,7 +6,6 @@ mod unit;
 pub use list::run;
 use plant::PlantAnswer;
 use plant::PlantState;
-use plant::PlantStep;
 use plant::number_in;
 use power::Kw;
 use row::KwSeconds;
@@ -14,15 +13,13 @@ use row::Row;
 use row::Sums;
 use sums::due_in;
 use sums::with_second;
+use unit::added_to;
 use unit::others;
-use unit::values_of;
 ghost use mathlib.Core.Path.{_≡_};
-ghost use lib.IntN.{_+ℤ_};
 ghost use lib.ListN.{length};
-ghost use Rattle.plant.specs.State as plant;
 ghost use Rattle.record.specs.Record.{size};
 ghost use Rattle.book.specs.Rows.{formNumber};
-ghost use Rattle.book.specs.State.{secondOf, fresh, refusedBy, Ready, Pooled, PlantsStepped, Stepped};
+ghost use Rattle.book.specs.State.{secondOf, fresh, refusedBy, Ready, PlantsStepped, Stepped};
 
 // The bytes of a book second.
 const SIZE: usize = 3 * record::SIZE;
@@ -67,12 +64,10 @@ fn form_number(owner: u8, bytes: &[u8]) -> u8
     0
 }
 
-// A pool's second: its working point has the unit's added, its measured the unit's and its own values there.
-fn pool_second(pool: PlantState, bytes: &[u8], point: Kw, values: Kw) -> PlantStep
-    requires { ⌜ Pooled pool (point .0) (values .0) ⌝ }
-    ensures { λ r. ⌜ plant.Stepped pool (now (bytes .entry)) (point .0 +ℤ values .0) (point .0) r ⌝ }
+fn rows(unit: Row, a: Row, b: Row) -> BookAnswer
+    ensures { λ r. ⌜ r ≡ BookAnswer.Rows unit a b ⌝ }
 {
-    pool.second_with(bytes, point.plus(values), point)
+    BookAnswer::Rows { unit, a, b }
 }
 
 impl Book {
@@ -120,13 +115,13 @@ impl Book {
         }
     }
 
-    // The unit first, then A, then B: the first refusal leaves with the old book.
+    // The unit first, then A, then B: the first refusal leaves with the old book. A pool's working point has the unit's added, its measured the
+    // unit's and its own values there.
     fn plants(self, owner: u8, unit: &[u8], a: &[u8], b: &[u8]) -> BookStep
         requires { ⌜ Ready self × (length (now unit) ≡ size) × (length (now a) ≡ size) × (length (now b) ≡ size) ⌝ }
         ensures { λ r. ⌜ PlantsStepped self owner (now (unit .entry)) (now (a .entry)) (now (b .entry)) r ⌝ }
     {
-        let old_unit = self.unit;
-        let unit_step = old_unit.second(unit);
+        let unit_step = self.unit.second_with(unit, Kw(0), Kw(0));
         let unit_answer = unit_step.answer;
         let PlantAnswer::Row(unit_row) = unit_answer else {
             return self.refused_by(Plant::Unit, number_in(unit_answer));
@@ -134,14 +129,14 @@ impl Book {
         let unit_record = record::fields_of(unit);
         let point = unit_record.working_point;
         let sold = record::kind_bits(owner);
-        let old_a = self.a;
-        let a_step = pool_second(old_a, a, point, values_of(others(sold), unit_row));
+        let a_step = self.a
+            .second_with(a, added_to(point, others(sold), unit_row), point);
         let a_answer = a_step.answer;
         let PlantAnswer::Row(a_row) = a_answer else {
             return self.refused_by(Plant::A, number_in(a_answer));
         };
-        let old_b = self.b;
-        let b_step = pool_second(old_b, b, point, values_of(sold, unit_row));
+        let b_step = self.b
+            .second_with(b, added_to(point, sold, unit_row), point);
         let b_answer = b_step.answer;
         let PlantAnswer::Row(b_row) = b_answer else {
             return self.refused_by(Plant::B, number_in(b_answer));
@@ -149,18 +144,13 @@ impl Book {
         let next_unit = unit_step.state;
         let next_a = a_step.state;
         let next_b = b_step.state;
-        let old_sums = self.sums;
         BookStep {
-            answer: BookAnswer::Rows {
-                unit: unit_row,
-                a: a_row,
-                b: b_row,
-            },
+            answer: rows(unit_row, a_row, b_row),
             book: Book {
                 unit: next_unit,
                 a: next_a,
                 b: next_b,
-                sums: with_second(old_sums, unit_row, a_row, b_row, due_in(unit, a, b)),
+                sums: with_second(self.sums, unit_row, a_row, b_row, due_in(unit, a, b)),
             },
         }
     }

@@ -5,6 +5,10 @@ use record::KindBits;
 use row::KindRow;
 use row::Row;
 ghost use mathlib.Core.Path.{_≡_};
+ghost use lib.IntN.{_+ℤ_};
+ghost use Rattle.numbers.specs.Bounds.{Within};
+ghost use Rattle.plant.specs.Refusals.{mostPower};
+ghost use Rattle.plant.specs.State.{mostAdded};
 ghost use Rattle.book.specs.Rows.{valueIf, valuesOf, others};
 ghost use Rattle.sharing.specs.Sizes.{SizedRow};
 ghost use Rattle.book.specs.State.{mostAtUnit};
@@ -27,7 +31,7 @@ fn value_if(sold: bool, k: KindRow) -> Kw
 }
 
 // The actual values at the unit of the kinds whose bits are set.
-pub(crate) fn values_of(b: KindBits, r: Row) -> Kw
+fn values_of(b: KindBits, r: Row) -> Kw
     requires { ⌜ SizedRow mostAtUnit r ⌝ }
     ensures { λ v. ⌜ v .0 ≡ valuesOf b r ⌝ }
 {
@@ -36,4 +40,12 @@ pub(crate) fn values_of(b: KindBits, r: Row) -> Kw
         value_if(b.afrr, r.afrr),
         value_if(b.mfrr, r.mfrr),
     )
+}
+
+// What a pool's measured has added, where the bits are those of its kinds: the unit's working point, and its own values at the unit.
+pub(crate) fn added_to(point: Kw, b: KindBits, r: Row) -> Kw
+    requires { ⌜ Within mostPower (point .0) × SizedRow mostAtUnit r ⌝ }
+    ensures { λ v. ⌜ (v .0 ≡ point .0 +ℤ valuesOf b r) × Within mostAdded (v .0) ⌝ }
+{
+    point.plus(values_of(b, r))
 }
