@@ -1,11 +1,15 @@
 //! Tables for the guide's table 4-1, its figures 6-1, 6-3, 6-6 and 6-8 and its lines 340 to 353, for docs/FIGURES.md.
 //!
-//! Ours are the published bands of a plant that runs second by second. The guide's are worked out here from its own
-//! formulas, exactly, in grains, and printed in kW to two places.
+//! Ours are the setpoints and published bands of a plant that runs second by second: of this program's, or, where
+//! `figures ROWS_PROGRAM` names one, of the unit's lines that it prints for a book of the same seconds. The guide's are
+//! worked out here from its own formulas, exactly, in grains, and printed in kW to two places.
 
+use reference::maker::book_bytes;
 use reference::plant::{Kind, Plant};
-use reference::power::GRAINS;
+use reference::power::{Band, GRAINS};
 use reference::record::Record;
+use std::io::Write;
+use std::process::{Command, Stdio};
 
 /// Grains as kW with two places, without them where there are none; thousands apart.
 fn kw(grains: i64) -> String {
@@ -35,8 +39,53 @@ fn apart(number: i64) -> String {
     text
 }
 
+/// What a program prints for a book.
+fn printed(program: &str, book: Vec<u8>) -> String {
+    let mut child = Command::new(program)
+        .stdin(Stdio::piped())
+        .stdout(Stdio::piped())
+        .spawn()
+        .expect("the rows program runs");
+    let mut input = child.stdin.take().expect("its input");
+    let writer = std::thread::spawn(move || input.write_all(&book).expect("it reads the book"));
+    let output = child.wait_with_output().expect("it ends");
+    writer.join().expect("the book is written");
+    String::from_utf8(output.stdout).expect("text")
+}
+
+/// A kind of the unit, second by second, as a rows program prints it: after second and letter, five figures a kind.
+fn printed_kinds(program: &str, kind: usize, records: &[Record]) -> Vec<Kind> {
+    let seconds: Vec<_> = records
+        .iter()
+        .map(|record| [record.clone(), Record::default(), Record::default()])
+        .collect();
+    let text = printed(program, book_bytes(0, &seconds));
+    let kinds: Vec<Kind> = text
+        .lines()
+        .map(|line| line.split(' ').collect::<Vec<_>>())
+        .filter(|words| words.get(1) == Some(&"U"))
+        .map(|words| {
+            let figure = |place: usize| words[2 + 5 * kind + place].parse::<i64>().expect("a figure");
+            Kind {
+                setpoint: figure(0),
+                band: Band {
+                    low: figure(1),
+                    high: figure(2),
+                },
+                share: figure(3),
+                actual: figure(4),
+            }
+        })
+        .collect();
+    assert_eq!(kinds.len(), records.len(), "a line of the unit for each second");
+    kinds
+}
+
 /// Our kinds, second by second, of a plant with these records.
 fn kinds(kind: usize, records: impl Iterator<Item = Record>) -> Vec<Kind> {
+    if let Some(program) = std::env::args().nth(1) {
+        return printed_kinds(&program, kind, &records.collect::<Vec<_>>());
+    }
     let mut plant = Plant::default();
     records
         .map(|record| {
@@ -83,7 +132,14 @@ fn table_4_1() {
     let edges = [0, 9, 10, 11, 199, 200, 201, -9, -10, -11, -199, -200, -201].map(|deviation| (400, deviation));
     for (held, deviation) in edges.into_iter().chain([(333, -50), (333, 50)]) {
         let guide = guide_fcr_setpoint(deviation, held).map_or("none given".to_string(), kw);
-        println!("| {} | {} | {} | {} |", held, deviation, guide, apart(reference::fcr::setpoint(deviation, held)));
+        let record = Record {
+            fcr_held: held as i32,
+            deviation: deviation as i16,
+            status: 1,
+            ..Record::default()
+        };
+        let ours = kinds(0, std::iter::once(record))[0].setpoint;
+        println!("| {} | {} | {} | {} |", held, deviation, guide, apart(ours));
     }
     println!();
 }
