@@ -80,6 +80,10 @@ pub record Adds (m : ℕ) (b e : List ℕ) (used : ℕ) (r : Run) (w : Ran) : Ty
   pub text : Put m b e used (r .used) (w .text)
   pub ready : Ready (r .book)
 
+-- the blocks that are read together
+abbrev pub atOnce : ℕ
+atOnce = 128
+
 -- r later blocks: those in which seconds are due, and no more
 pub record BlocksIn (seconds r : ℕ) : Type 0 where
   pub due : (n : ℕ) → 0 < n → n ≤ r → 0 < dueIn seconds n

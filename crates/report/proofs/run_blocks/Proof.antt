@@ -1,18 +1,20 @@
 -- `report::run_blocks` is safe and ends: the measure is the number of blocks left. Assumes nothing.
 use mathlib.Core.Path.{_≡_}
-use Prim.Native.Nat.{_-_, _≤_}
+use Prim.Native.Nat.{_+_, _-_, _≤_}
 use native.Mathlib.Omega.{arith}
 use lib.ListN.{length}
+use mir.Syntax.{w32}
+use mir.Val.{Fits}
 use borrow.Author.Needs.{needs}
 use Rattle.book.specs.State.{Ready}
 use Rattle.report.proofs.run_blocks.Statement.{statement}
 use Rattle.report.proofs.run_blocks.Tie as tie
 
 abbrev Inv-loop : tie.InvT-loop
-Inv-loop plan block₀ out₀ last run₀ n₀ block out run n = (length out ≡ length out₀) × (length block ≡ length block₀) × (run .used ≤ length out) × Ready (run .book)
+Inv-loop plan blocks₀ out₀ last run₀ n₀ blocks out run n = (n ≤ last) × (length out ≡ length out₀) × (length blocks ≡ length blocks₀) × (run .used ≤ length out) × Ready (run .book)
 
 abbrev μ-loop : tie.MeasureT-loop
-μ-loop plan block₀ out₀ last run₀ n₀ block out run n = last - n
+μ-loop plan blocks₀ out₀ last run₀ n₀ blocks out run n = last - n
 
 blocks-in-requires : tie.Need-blocks-in-requires Inv-loop μ-loop
 blocks-in-requires c κs = search needs
@@ -26,11 +28,27 @@ accepted-requires c κs = search needs
 loop-holds : tie.Need-loop-holds Inv-loop μ-loop
 loop-holds c = rw (c .accepted .ensures) (search needs)
 
-add-n : tie.Need-add-n Inv-loop μ-loop
-add-n c = search needs
+sub-read-at-once : tie.Need-sub-read-at-once Inv-loop μ-loop
+sub-read-at-once c = search needs
 
-next-block-requires : tie.Need-next-block-requires Inv-loop μ-loop
-next-block-requires c κs = (c .before .before .before .loop .inv .3, c .before .before .before .loop .inv .2, omega (arith, c .before .before .before .loop .inv .0, c .before .before .before .before .before .before .before .before .before .pre .1))
+read-at-once-requires : tie.Need-read-at-once-requires Inv-loop μ-loop
+read-at-once-requires c κs = search needs
+
+abbrev begun : tie.At-loop Inv-loop μ-loop → tie.After-blocks-in Inv-loop μ-loop
+begun l = l .before .before .before
+
+-- no more blocks are read than there are
+counted : (q : tie.After-read-at-once Inv-loop μ-loop) → Fits w32 (q .before .before .loop .n + q .read-at-once .result)
+counted q =
+    let l = q .before .before in
+    record { fits = omega (arith, l .loop .inv .0, q .read-at-once .ensures, begun l .blocks-in .ensures .1) }
+
+next-blocks-requires : tie.Need-next-blocks-requires Inv-loop μ-loop
+next-blocks-requires c κs =
+    let l = c .before .before .before .before in
+    let v = l .loop .inv in
+    let p = begun l .before .before .before .pre in
+    (v .4, v .3, omega (arith, v .1, p .2), omega (arith, c .before .before .read-at-once .ensures), counted (c .before .before), omega (arith, v .2, p .1))
 
 enum-told : tie.Need-enum-told Inv-loop μ-loop
 enum-told c = search needs
@@ -46,6 +64,9 @@ returns c = search needs
 
 enum-told-2 : tie.Need-enum-told-2 Inv-loop μ-loop
 enum-told-2 c = search needs
+
+add-n : tie.Need-add-n Inv-loop μ-loop
+add-n c = counted (c .before .before .before .before .before .before .before .before .before)
 
 loop-less : tie.Need-loop-less Inv-loop μ-loop
 loop-less c = search needs
@@ -72,13 +93,15 @@ run-blocks-spec =
     new-requires
     accepted-requires
     loop-holds
-    add-n
-    next-block-requires
+    sub-read-at-once
+    read-at-once-requires
+    next-blocks-requires
     enum-told
     same-length
     same-length-2
     returns
     enum-told-2
+    add-n
     loop-less
     loop-again
     same-length-3

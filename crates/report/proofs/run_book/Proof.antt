@@ -4,8 +4,8 @@ use Rattle.report.proofs.Blocks.{few}
 use Rattle.report.proofs.run_book.Statement.{statement}
 use Rattle.report.proofs.run_book.Tie as tie
 
-read-full-requires : tie.Need-read-full-requires
-read-full-requires c κs = search needs
+read-blocks-requires : tie.Need-read-blocks-requires
+read-blocks-requires c κs = search needs
 
 slice-reshare-prefix-read-header : tie.Need-slice-reshare-prefix-read-header
 slice-reshare-prefix-read-header c = search needs
@@ -29,10 +29,11 @@ enum-known-owner : tie.Need-enum-known-owner
 enum-known-owner c = search needs
 
 run-blocks-requires : tie.Need-run-blocks-requires
-run-blocks-requires c κs = (few _ (c .before .before .before .owner .given .1) (c .before .before .before .before .before .read-header .ensures), search needs)
+run-blocks-requires c κs =
+    (few _ (c .before .before .before .owner .given .1) (c .before .before .before .before .before .read-header .ensures), search needs, search needs)
 
 same-length : tie.Need-same-length
-same-length c = c .before .before .before .before .before .before .before .before .block .given
+same-length c = c .before .before .before .before .before .before .before .before .blocks2 .given
 
 returns : tie.Need-returns
 returns c = rw (c .refused .ensures) (search needs)
@@ -50,7 +51,7 @@ pub run-book-spec : {M : Type 1} → statement M
 run-book-spec =
     tie.close
     (tie.spec
-    read-full-requires
+    read-blocks-requires
     slice-reshare-prefix-read-header
     slice-aggregate-read-header
     read-header-requires
