@@ -34,7 +34,7 @@ from-negs : (m : ℤ) (l : List Kw) → overFrom maxZ (negℤ m) (negs l) ≡ ne
 from-negs m [] = refl
 from-negs m (k ∷ ks) = ap (λ (z : ℤ). overFrom maxZ z (negs ks)) (max-neg m (k .0)) ∙ from-negs (minZ m (k .0)) ks
 
-largest-negs : (l : List Kw) → largest (negs l) ≡ negℤ (smallest l)
+pub largest-negs : (l : List Kw) → largest (negs l) ≡ negℤ (smallest l)
 unfolding largest smallest
 largest-negs [] = refl
 largest-negs (k ∷ ks) = from-negs (k .0) ks
@@ -54,7 +54,7 @@ gradient-mirror h =
     let old = ago reaction reach (setpoints h) in
     rw (ago-mirror reaction reach h, largest-negs old, smallest-negs old) (gradient-swap (largest old) (smallest old))
 
-max-swap : (a b : ℤ) → maxZ a b ≡ maxZ b a
+pub max-swap : (a b : ℤ) → maxZ a b ≡ maxZ b a
 max-swap a b = omega (arith, shows, max-nat a b, max-nat b a)
 
 held-mirror : (x : Second) → heldOf (mirrorOf x) ≡ heldOf x

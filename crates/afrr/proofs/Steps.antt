@@ -1,5 +1,5 @@
 -- A step at any state, and at the state that a past leaves. Assumes nothing.
-use mathlib.Core.Path.{_≡_, refl, ap, subst}
+use mathlib.Core.Path.{_≡_, refl, sym, ap, _∙_, subst}
 use mathlib.Core.List.{List, [], _∷_}
 use Prim.Native.Nat.{_*_, _-_}
 use native.Mathlib.Omega.{arith}
@@ -20,7 +20,7 @@ use Rattle.afrr.specs.declared.Second.{Second}
 use Rattle.afrr.specs.declared.AfrrState.{AfrrState}
 use Rattle.afrr.specs.declared.AfrrStep.{AfrrStep}
 use Rattle.afrr.specs.Band.{reach, reaction, setpoints, largest, smallest, ago, gradientBy, gradient, heldOf, nextUpper, nextLower, limitsFrom, lastLimits, bandAt}
-use Rattle.afrr.specs.State.{limitMost, stateOf, Ready, Fair, AllFair, limitsIn, stepIn, Stepped, Sources}
+use Rattle.afrr.specs.State.{extremesIn, earlierIn, limitMost, stateOf, Ready, Fair, AllFair, limitsIn, pastIn, stepIn, Stepped, Sources}
 use Rattle.afrr.proofs.Edges as edges
 use Rattle.afrr.proofs.Parts.{gradient-within, gradient-sign, five-within, five-sign}
 use Rattle.afrr.proofs.Windows.{ago-newest, largest-within, smallest-within}
@@ -86,6 +86,7 @@ module _ (st : AfrrState) (x : Second) (r : Ready st) (f : Fair x) where
         ready =
             record {
               past-range = ranged-cons (x .setpoint) (take (reach - 1) (st .past)) (f .setpoint-range) (ranged-take (reach - 1) (st .past) (r .past-range));
+              earlier-is = refl;
               upper-range = upper-small;
               lower-range = lower-small;
             };
@@ -104,17 +105,27 @@ limits-newest p last x =
       upper = grains (nextUpper (largest (recent i)) (last .upper .0) (gradientBy (largest (old i)) (smallest (old i))) (x .setpoint .0) (fivePercent (heldOf x)));
     }
 
+earlier-newest : (p : List Kw) → earlierIn (newest reach p) ≡ earlierIn p
+earlier-newest p = ap extremesIn (ago-newest reaction reach reach p (omega arith))
+
 module _ (h : List Second) (x : Second) where
   limits-follow : limitsIn (stateOf h) x ≡ lastLimits (x ∷ h)
   unfolding stateOf lastLimits
   limits-follow = limits-newest (setpoints h) (lastLimits h) x
+
+  past-follows : pastIn (stateOf h) (x .setpoint) ≡ newest reach (setpoints (x ∷ h))
+  unfolding stateOf
+  past-follows = newest-more (reach - 1) (x .setpoint) (setpoints h) (newest reach (setpoints h)) refl
+
+  earlier-follow : earlierIn (pastIn (stateOf h) (x .setpoint)) ≡ earlierIn (setpoints (x ∷ h))
+  earlier-follow = ap earlierIn past-follows ∙ earlier-newest (setpoints (x ∷ h))
 
   pub follows : stepIn (stateOf h) x ≡ record { band = bandAt h x; state = stateOf (x ∷ h) }
   unfolding stateOf stepIn
   follows =
       λ i. record {
         band = publishedOf (limits-follow i);
-        state = record { past = newest-more (reach - 1) (x .setpoint) (setpoints h) (newest reach (setpoints h)) refl i; limits = limits-follow i };
+        state = record { past = past-follows i; earlier = earlier-follow i; limits = limits-follow i };
       }
 
 -- what a step asks of its state holds after every past of fair seconds: a step keeps it
@@ -123,6 +134,7 @@ unfolding stateOf lastLimits
 state-ready [] f =
     record {
       past-range = ranged-newest reach [] ranged-none;
+      earlier-is = sym (earlier-newest []);
       upper-range = within-lit (limitMost * perKw) (pos 0) tt;
       lower-range = within-lit (limitMost * perKw) (pos 0) tt;
     }

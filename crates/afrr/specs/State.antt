@@ -1,25 +1,33 @@
 -- What the aFRR state holds after a past, and what a step answers.
 use Prim.Native.Nat.{ℕ, _+_, _-_, _*_}
 use mathlib.Core.Path.{_≡_}
-use mathlib.Core.List.{List, [], _∷_}
+use mathlib.Core.Bool.{Bool, _&&_, _||_}
+use mathlib.Core.List.{List, [], _∷_, _++_}
 use lib.IntN.{ℤ, pos}
 use lib.ListN.{take}
-use lib.Signed.{_≤ℤ_}
+use lib.Signed.{ltZ, leZ, _≤ℤ_}
 use Rattle.numbers.specs.Bounds.{Within}
 use Rattle.power.specs.declared.kilowatts.Kw.{Kw}
 use Rattle.power.specs.declared.limits.Limits.{Limits}
-use Rattle.power.specs.Units.{perKw, mostReserve}
+use Rattle.power.specs.Units.{kw, perKw, mostReserve}
 use Rattle.power.specs.Inward.{publishedOf, Published}
 use Rattle.power.specs.Past.{newest, Ranged}
 use Rattle.afrr.specs.declared.Second.{Second}
 use Rattle.afrr.specs.declared.Extremes.{Extremes}
 use Rattle.afrr.specs.declared.AfrrState.{AfrrState}
 use Rattle.afrr.specs.declared.AfrrStep.{AfrrStep}
-use Rattle.afrr.specs.Band.{reach, setpoints, largest, smallest, heldOf, limitsFrom, lastLimits}
+use Rattle.afrr.specs.Band.{reach, reaction, setpoints, largest, smallest, ago, heldOf, limitsFrom, lastLimits}
+
+-- the highest and the lowest of some setpoints, and of those that the gradient goes by: "s(t-300) to s(t-30)"
+abbrev pub extremesIn : List Kw → Extremes
+extremesIn l = record { highest = kw (largest l); lowest = kw (smallest l) }
+
+abbrev pub earlierIn : List Kw → Extremes
+earlierIn p = extremesIn (ago reaction reach p)
 
 -- what the state holds after the past h
 unfoldable pub stateOf : List Second → AfrrState
-stateOf h = record { past = newest reach (setpoints h); limits = lastLimits h }
+stateOf h = record { past = newest reach (setpoints h); earlier = earlierIn (setpoints h); limits = lastLimits h }
 
 -- 5 % of the largest held power, in kW; and no limit is farther from 0 than the largest setpoint and that
 abbrev pub fiveMost : ℕ
@@ -28,9 +36,10 @@ fiveMost = 50000
 abbrev pub limitMost : ℕ
 limitMost = mostReserve + fiveMost
 
--- what is asked of a state
+-- what is asked of a state: ranges, and that the extremes it holds are those of its own setpoints
 pub record Ready (st : AfrrState) : Type 0 where
   pub past-range : Ranged (st .past)
+  pub earlier-is : st .earlier ≡ earlierIn (st .past)
   pub upper-range : Within (limitMost * perKw) (st .limits .upper .0)
   pub lower-range : Within (limitMost * perKw) (st .limits .lower .0)
 
@@ -46,15 +55,18 @@ abbrev pub AllFair : List Second → Type 0
 AllFair [] = Unit
 AllFair (x ∷ h) = Fair x × AllFair h
 
--- a second at any state: its limits are those by the setpoints and the limits that the state holds; then its setpoint stands before the others, of which the oldest is dropped
+-- a second at any state: its limits are those by the setpoints and the limits that the state holds; then its setpoint stands before the others, of which the oldest is dropped, and the extremes are those of the setpoints then held
 abbrev pub limitsIn : AfrrState → Second → Limits
 limitsIn st x = limitsFrom (st .past) (st .limits) x
+
+abbrev pub pastIn : AfrrState → Kw → List Kw
+pastIn st s = s ∷ take (reach - 1) (st .past)
 
 unfoldable pub stepIn : AfrrState → Second → AfrrStep
 stepIn st x =
     record {
       band = publishedOf (limitsIn st x);
-      state = record { past = x .setpoint ∷ take (reach - 1) (st .past); limits = limitsIn st x };
+      state = record { past = pastIn st (x .setpoint); earlier = earlierIn (pastIn st (x .setpoint)); limits = limitsIn st x };
     }
 
 pub record Stepped (st : AfrrState) (x : Second) (r : AfrrStep) : Type 0 where
@@ -66,9 +78,14 @@ pub record Stepped (st : AfrrState) (x : Second) (r : AfrrStep) : Type 0 where
 
 -- ---- what the other operations answer and ask
 
-pub record Extreme (l : List Kw) (r : Extremes) : Type 0 where
-  pub highest : r .highest .0 ≡ largest l
-  pub lowest : r .lowest .0 ≡ smallest l
+-- the setpoints that the gradient went by a second before it went by those of p: all but the newest of these, and `old`
+abbrev pub earlierBefore : List Kw → Kw → List Kw
+earlierBefore p old = ago (reaction + 1) reach p ++ (old ∷ [])
+
+-- `old` was an extreme that `new` does not replace
+unfoldable pub isLost : Extremes → ℤ → ℤ → Bool
+isLost x new old =
+    (ltZ new (x .highest .0) && leZ (x .highest .0) old) || (ltZ (x .lowest .0) new && leZ old (x .lowest .0))
 
 pub record Holds (x : Second) (r : Kw) : Type 0 where
   pub held : r .0 ≡ heldOf x
@@ -91,5 +108,6 @@ pub record Sources (recent last g s five : ℤ) : Type 0 where
 
 -- the state after a second with the setpoint s and the limits l, which stay exact
 pub record Moved (st : AfrrState) (s : Kw) (l : Limits) (r : AfrrState) : Type 0 where
-  pub past : r .past ≡ s ∷ take (reach - 1) (st .past)
+  pub past : r .past ≡ pastIn st s
+  pub earlier : r .earlier ≡ earlierIn (r .past)
   pub limits : r .limits ≡ l

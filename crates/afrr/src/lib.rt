@@ -7,9 +7,10 @@ ghost use lib.ListN.{take};
 ghost use lib.Signed.{quotZ};
 ghost use mir.Syntax.{w64};
 ghost use mir.Val.{SFits};
-ghost use Rattle.power.specs.Past.{Ranged};
-ghost use Rattle.afrr.specs.Band.{reach, spread, ago, gradient, nextUpper, nextLower, limitsFrom};
-ghost use Rattle.afrr.specs.State.{stateOf, Ready, Fair, Stepped, Extreme, Holds, Sources, Moved};
+ghost use Rattle.numbers.specs.Bounds.{Within};
+ghost use Rattle.power.specs.Units.{mostReserve};
+ghost use Rattle.afrr.specs.Band.{reach, spread, ago, gradientBy, nextUpper, nextLower, limitsFrom};
+ghost use Rattle.afrr.specs.State.{extremesIn, earlierIn, stateOf, Ready, Fair, Stepped, earlierBefore, isLost, Holds, Sources, Moved};
 use power::Band;
 use power::Grains;
 use power::Kw;
@@ -33,9 +34,10 @@ pub struct Second {
     pub down: Kw,
 }
 
-// The last 300 setpoints, newest first, and the limits of the last second, exact.
+// The last 300 setpoints, newest first; the extremes of those 30 or more seconds ago, so that a second need not look at them all; and the limits of the last second, exact.
 pub struct AfrrState {
     pub past: [Kw; REACH],
+    pub earlier: Extremes,
     pub limits: Limits,
 }
 
@@ -44,15 +46,15 @@ pub struct AfrrStep {
     pub state: AfrrState,
 }
 
-struct Extremes {
-    highest: Kw,
-    lowest: Kw,
+pub struct Extremes {
+    pub highest: Kw,
+    pub lowest: Kw,
 }
 
-// The highest and the lowest setpoint from `b` seconds ago to `a` seconds ago. A faster way can take its place.
+// The highest and the lowest setpoint from `b` seconds ago to `a` seconds ago.
 fn extremes_of(past: [Kw; REACH], a: usize, b: usize) -> Extremes
     requires { ⌜ (1 ≤ a) × (a ≤ b) × (b ≤ reach) ⌝ }
-    ensures { λ r. ⌜ Extreme (ago a b past) r ⌝ }
+    ensures { λ r. ⌜ r ≡ extremesIn (ago a b past) ⌝ }
 {
     let newest = past[a - 1];
     let mut highest = newest;
@@ -65,6 +67,35 @@ fn extremes_of(past: [Kw; REACH], a: usize, b: usize) -> Extremes
     Extremes { highest, lowest }
 }
 
+// Whether `old` was an extreme that `new` does not replace.
+fn is_lost(x: Extremes, new: Kw, old: Kw) -> bool
+    ensures { λ r. ⌜ r ≡ isLost x (new .0) (old .0) ⌝ }
+{
+    let highest = x.highest;
+    let lowest = x.lowest;
+    if new.is_below(highest) && highest.is_at_most(old) {
+        return true;
+    }
+    lowest.is_below(new) && old.is_at_most(lowest)
+}
+
+// The extremes of the setpoints 30 or more seconds ago, which `old` has just left, from those before it left, `x`.
+fn next_extremes(x: Extremes, past: [Kw; REACH], old: Kw) -> Extremes
+    requires { ⌜ x ≡ extremesIn (earlierBefore past old) ⌝ }
+    ensures { λ r. ⌜ r ≡ earlierIn past ⌝ }
+{
+    let new = past[REACTION - 1];
+    if is_lost(x, new, old) {
+        return extremes_of(past, REACTION, REACH);
+    }
+    let highest = x.highest;
+    let lowest = x.lowest;
+    Extremes {
+        highest: highest.larger(new),
+        lowest: lowest.smaller(new),
+    }
+}
+
 fn spread_over(g: Grains) -> Grains
     requires { ⌜ SFits w64 (quotZ (g .0) (pos spread)) ⌝ }
     ensures { λ r. ⌜ r .0 ≡ quotZ (g .0) (pos spread) ⌝ }
@@ -72,12 +103,11 @@ fn spread_over(g: Grains) -> Grains
     Grains(g.0 / SPREAD)
 }
 
-// What a limit moves in a second.
-fn gradient_of(past: [Kw; REACH]) -> Grains
-    requires { ⌜ Ranged past ⌝ }
-    ensures { λ r. ⌜ r .0 ≡ gradient past ⌝ }
+// What a limit moves in a second, by the extremes of the setpoints 30 or more seconds ago.
+fn gradient_of(x: Extremes) -> Grains
+    requires { ⌜ Within mostReserve (x .highest .0) × Within mostReserve (x .lowest .0) ⌝ }
+    ensures { λ r. ⌜ r .0 ≡ gradientBy (x .highest .0) (x .lowest .0) ⌝ }
 {
-    let x = extremes_of(past, REACTION, REACH);
     let highest = x.highest;
     let lowest = x.lowest;
     let most = Kw(LEAST).larger(highest.minus(lowest));
@@ -126,11 +156,12 @@ fn limits_of(state: AfrrState, x: Second) -> Limits
     ensures { λ r. ⌜ r ≡ limitsFrom (state .past) (state .limits) x ⌝ }
 {
     let past = state.past;
+    let earlier = state.earlier;
     let last = state.limits;
     let lower = last.lower;
     let upper = last.upper;
     let s = x.setpoint;
-    let g = gradient_of(past);
+    let g = gradient_of(earlier);
     let recent = extremes_of(past, 1, REACTION);
     let highest = recent.highest;
     let lowest = recent.lowest;
@@ -157,20 +188,33 @@ pub fn new() -> AfrrState
     ensures { λ r. ⌜ (r ≡ stateOf []) × Ready r ⌝ }
 {
     let past = [Kw(0); REACH];
+    let earlier = Extremes {
+        highest: Kw(0),
+        lowest: Kw(0),
+    };
     let limits = Limits {
         lower: Grains(0),
         upper: Grains(0),
     };
-    AfrrState { past, limits }
+    AfrrState {
+        past,
+        earlier,
+        limits,
+    }
 }
 
 // The state after a second with the setpoint `s` and the limits `limits`, which stay exact.
 fn moved(state: AfrrState, s: Kw, limits: Limits) -> AfrrState
+    requires { ⌜ Ready state ⌝ }
     ensures { λ r. ⌜ Moved state s limits r ⌝ }
 {
     let before = state.past;
+    let earlier = state.earlier;
+    let old = before[REACH - 1];
+    let past = shifted(before, s);
     AfrrState {
-        past: shifted(before, s),
+        past,
+        earlier: next_extremes(earlier, past, old),
         limits,
     }
 }

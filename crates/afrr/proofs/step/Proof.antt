@@ -2,7 +2,7 @@
 use mathlib.Core.Path.{_≡_, sym, ap, _∙_, subst}
 use borrow.Author.Needs.{needs}
 use Rattle.power.specs.Inward.{publishedOf}
-use Rattle.afrr.specs.State.{stepIn, Stepped}
+use Rattle.afrr.specs.State.{earlierIn, stepIn, Stepped}
 use Rattle.afrr.proofs.Steps.{band-fits, stepped}
 use Rattle.afrr.proofs.step.Statement.{statement}
 use Rattle.afrr.proofs.step.Tie as tie
@@ -26,7 +26,7 @@ returns c =
     let limits = l .limits-of .ensures in
     let band = c .before .published .ensures ∙ ap publishedOf limits in
     let m = c .moved .ensures in
-    let e : _ ≡ stepIn (s .args .state) (s .args .x) = λ i. record { band = band i; state = record { past = m .past i; limits = (m .limits ∙ limits) i } } in
+    let e : _ ≡ stepIn (s .args .state) (s .args .x) = λ i. record { band = band i; state = record { past = m .past i; earlier = (m .earlier ∙ ap earlierIn (m .past)) i; limits = (m .limits ∙ limits) i } } in
     subst (Stepped (s .args .state) (s .args .x)) (sym e) (stepped _ _ (s .pre .0) (s .pre .1))
 
 pub step-spec : {M : Type 1} → statement M
