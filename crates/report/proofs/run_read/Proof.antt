@@ -1,5 +1,5 @@
 -- `report::run_read` is safe and ends: the measure is the number of blocks left. Assumes nothing.
-use mathlib.Core.Path.{_≡_}
+use mathlib.Core.Path.{_≡_, _∙_}
 use Prim.Native.Nat.{_-_, _≤_}
 use native.Mathlib.Omega.{arith}
 use lib.ListN.{length}
@@ -48,7 +48,7 @@ enum-told : tie.Need-enum-told Inv-loop μ-loop
 enum-told c = search needs
 
 same-length : tie.Need-same-length Inv-loop μ-loop
-same-length c = search needs
+same-length c = c .before .before .before .out .given ∙ c .before .before .before .before .before .before .before .before .before .before .loop .inv .1
 
 returns : tie.Need-returns Inv-loop μ-loop
 returns c = search needs
@@ -60,7 +60,11 @@ loop-less : tie.Need-loop-less Inv-loop μ-loop
 loop-less c = search needs
 
 loop-again : tie.Need-loop-again Inv-loop μ-loop
-loop-again c = search needs
+loop-again c =
+    let b = c .before .before .before .before in
+    let i = b .before .before .before .before .before in
+    let l = i .before in
+    (omega (arith, i .loop-test .taken), c .before .before .before .out .given ∙ l .loop .inv .1, b .next-block .ensures .1, b .next-block .ensures .0)
 
 same-length-2 : tie.Need-same-length-2 Inv-loop μ-loop
 same-length-2 c = search needs
