@@ -5,8 +5,9 @@ use mathlib.Core.List.{List, [], _∷_, _++_}
 use Prim.Native.Nat.{_+_, _-_}
 use native.Mathlib.Omega.{arith}
 use lib.Dec.{T}
-use lib.IntN.{ℤ, negℤ, negℤ-negℤ}
+use lib.IntN.{ℤ, pos, negℤ, negℤ-negℤ}
 use lib.ListN.{drop}
+use lib.Seq.{getD-take}
 use lib.Signed.{ltZ, leZ, _≤ℤ_}
 use Rattle.numbers.specs.Order.{maxZ, minZ}
 use Rattle.numbers.proofs.Order.{max-nat, max-left, max-neg, lt-neg, le-neg, ≤ℤ-trans}
@@ -109,16 +110,21 @@ next k l new old f =
 -- ---- the setpoints that the gradient goes by
 
 pub entered :
-    (p : List Kw) (old : Kw) (x : Extremes) →
+    (p : List Kw) (new old : Kw) (x : Extremes) →
     x ≡ extremesIn (earlierBefore p old) →
-    isLost x (at p (reaction - 1)) (old .0) ≡ false →
-    record { highest = kw (maxZ (x .highest .0) (at p (reaction - 1))); lowest = kw (minZ (x .lowest .0) (at p (reaction - 1))) } ≡ earlierIn p
-entered p old x e f =
+    new .0 ≡ at p (reaction - 1) →
+    isLost x (new .0) (old .0) ≡ false →
+    record { highest = kw (maxZ (x .highest .0) (new .0)); lowest = kw (minZ (x .lowest .0) (new .0)) } ≡ earlierIn p
+entered p new old x e n f =
     let more = there reach p reaction (omega arith) in
-    rw (e, there reach p (reaction - 1) (omega arith), more)
-    (next (kw (at p reaction)) (drop (reaction + 1) (newest reach p)) (kw (at p (reaction - 1))) old (rw (e, more) at f))
+    rw (e, there reach p (reaction - 1) (omega arith), ← n, more)
+    (next (kw (at p reaction)) (drop (reaction + 1) (newest reach p)) new old (rw (e, more) at f))
 
--- a state's extremes once its past has moved on: those of the setpoints a second before
+-- once a state's past has moved on: its extremes are those of the setpoints a second before, and a setpoint is at the next place
+pub moved-on :
+    (st : AfrrState) (s : Kw) (past : List Kw) → past ≡ pastIn st s → at (st .past) (reaction - 2) ≡ at past (reaction - 1)
+moved-on st s past e = rw e (sym (ap (λ (k : Kw). k .0) (getD-take (reach - 1) (st .past) (reaction - 2) (kw (pos 0)) (omega arith))))
+
 pub left :
     (st : AfrrState) (s : Kw) (past : List Kw) →
     Ready st →

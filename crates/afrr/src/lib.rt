@@ -9,7 +9,8 @@ ghost use mir.Syntax.{w64};
 ghost use mir.Val.{SFits};
 ghost use Rattle.numbers.specs.Bounds.{Within};
 ghost use Rattle.power.specs.Units.{mostReserve};
-ghost use Rattle.afrr.specs.Band.{reach, spread, ago, gradientBy, nextUpper, nextLower, limitsFrom};
+ghost use Rattle.power.specs.Past.{at};
+ghost use Rattle.afrr.specs.Band.{reach, reaction, spread, ago, gradientBy, nextUpper, nextLower, limitsFrom};
 ghost use Rattle.afrr.specs.State.{extremesIn, earlierIn, stateOf, Ready, Fair, Stepped, earlierBefore, isLost, Holds, Sources, Moved};
 use power::Band;
 use power::Grains;
@@ -79,12 +80,11 @@ fn is_lost(x: Extremes, new: Kw, old: Kw) -> bool
     lowest.is_below(new) && old.is_at_most(lowest)
 }
 
-// The extremes of the setpoints 30 or more seconds ago, which `old` has just left, from those before it left, `x`.
-fn next_extremes(x: Extremes, past: [Kw; REACH], old: Kw) -> Extremes
-    requires { ⌜ x ≡ extremesIn (earlierBefore past old) ⌝ }
+// The extremes of the setpoints 30 or more seconds ago, which `new` has just joined and `old` has just left, from those before, `x`.
+fn next_extremes(x: Extremes, past: [Kw; REACH], new: Kw, old: Kw) -> Extremes
+    requires { ⌜ (x ≡ extremesIn (earlierBefore past old)) × (new .0 ≡ at past (reaction - 1)) ⌝ }
     ensures { λ r. ⌜ r ≡ earlierIn past ⌝ }
 {
-    let new = past[REACTION - 1];
     if is_lost(x, new, old) {
         return extremes_of(past, REACTION, REACH);
     }
@@ -210,11 +210,12 @@ fn moved(state: AfrrState, s: Kw, limits: Limits) -> AfrrState
 {
     let before = state.past;
     let earlier = state.earlier;
+    let new = before[REACTION - 2];
     let old = before[REACH - 1];
     let past = shifted(before, s);
     AfrrState {
         past,
-        earlier: next_extremes(earlier, past, old),
+        earlier: next_extremes(earlier, past, new, old),
         limits,
     }
 }

@@ -6,15 +6,6 @@ use Rattle.afrr.proofs.Moving.{entered}
 use Rattle.afrr.proofs.next_extremes.Statement.{statement}
 use Rattle.afrr.proofs.next_extremes.Tie as tie
 
-sub-new : tie.Need-sub-new
-sub-new c = search needs
-
-mul-new : tie.Need-mul-new
-mul-new c = search needs
-
-array-copy-out-new : tie.Need-array-copy-out-new
-array-copy-out-new c = search needs
-
 is-lost-requires : tie.Need-is-lost-requires
 is-lost-requires c κs = search needs
 
@@ -33,17 +24,14 @@ smaller-requires c κs = search needs
 returns-2 : tie.Need-returns-2
 returns-2 c =
     let x = c .before .before .before .before .before in
-    let s = x .before .before in
+    let s = x .before in
     (λ i. record { highest = kw (c .before .larger .ensures i); lowest = kw (c .smaller .ensures i) })
-    ∙ entered (s .args .t2) (s .args .old) (s .args .x) (s .pre) (sym (x .is-lost .ensures) ∙ c .before .before .before .before .if1 .left)
+    ∙ entered (s .args .past) (s .args .new) (s .args .old) (s .args .x) (s .pre .0) (s .pre .1) (sym (x .is-lost .ensures) ∙ c .before .before .before .before .if1 .left)
 
 pub next-extremes-spec : {M : Type 1} → statement M
 next-extremes-spec =
     tie.close
     (tie.spec
-    sub-new
-    mul-new
-    array-copy-out-new
     is-lost-requires
     extremes-of-requires
     returns
