@@ -1,22 +1,23 @@
 -- What the aFRR state holds after a past, and what a step answers.
 use Prim.Native.Nat.{ℕ, _+_, _-_, _*_}
 use mathlib.Core.Path.{_≡_}
-use mathlib.Core.Bool.{Bool, _&&_, _||_}
-use mathlib.Core.List.{List, [], _∷_, _++_}
+use mathlib.Core.Bool.{Bool, cond, _&&_, _||_}
+use mathlib.Core.List.{List, [], _∷_}
 use lib.IntN.{ℤ, pos}
 use lib.ListN.{take}
 use lib.Signed.{ltZ, leZ, _≤ℤ_}
 use Rattle.numbers.specs.Bounds.{Within}
+use Rattle.numbers.specs.Order.{maxZ, minZ}
 use Rattle.power.specs.declared.kilowatts.Kw.{Kw}
 use Rattle.power.specs.declared.limits.Limits.{Limits}
 use Rattle.power.specs.Units.{kw, perKw, mostReserve}
 use Rattle.power.specs.Inward.{publishedOf, Published}
-use Rattle.power.specs.Past.{newest, Ranged}
+use Rattle.power.specs.Past.{at, newest, Ranged}
 use Rattle.afrr.specs.declared.Second.{Second}
 use Rattle.afrr.specs.declared.Extremes.{Extremes}
 use Rattle.afrr.specs.declared.AfrrState.{AfrrState}
 use Rattle.afrr.specs.declared.AfrrStep.{AfrrStep}
-use Rattle.afrr.specs.Band.{reach, reaction, setpoints, largest, smallest, ago, heldOf, limitsFrom, lastLimits}
+use Rattle.afrr.specs.Band.{reach, reaction, setpoints, largest, smallest, ago, gradientBy, heldOf, limitsBy, lastLimits}
 
 -- the highest and the lowest of some setpoints, and of those that the gradient goes by: "s(t-300) to s(t-30)"
 abbrev pub extremesIn : List Kw → Extremes
@@ -36,10 +37,11 @@ fiveMost = 50000
 abbrev pub limitMost : ℕ
 limitMost = mostReserve + fiveMost
 
--- what is asked of a state: ranges, and that the extremes it holds are those of its own setpoints
+-- what is asked of a state
 pub record Ready (st : AfrrState) : Type 0 where
   pub past-range : Ranged (st .past)
-  pub earlier-is : st .earlier ≡ earlierIn (st .past)
+  pub highest-range : Within mostReserve (st .earlier .highest .0)
+  pub lowest-range : Within mostReserve (st .earlier .lowest .0)
   pub upper-range : Within (limitMost * perKw) (st .limits .upper .0)
   pub lower-range : Within (limitMost * perKw) (st .limits .lower .0)
 
@@ -55,18 +57,35 @@ abbrev pub AllFair : List Second → Type 0
 AllFair [] = Unit
 AllFair (x ∷ h) = Fair x × AllFair h
 
--- a second at any state: its limits are those by the setpoints and the limits that the state holds; then its setpoint stands before the others, of which the oldest is dropped, and the extremes are those of the setpoints then held
-abbrev pub limitsIn : AfrrState → Second → Limits
-limitsIn st x = limitsFrom (st .past) (st .limits) x
+-- a second at any state: its limits are those by the extremes, the setpoints and the limits that the state holds
+abbrev pub gradientIn : Extremes → ℤ
+gradientIn x = gradientBy (x .highest .0) (x .lowest .0)
 
+abbrev pub limitsIn : AfrrState → Second → Limits
+limitsIn st x = limitsBy (gradientIn (st .earlier)) (st .past) (st .limits) x
+
+-- then its setpoint s stands before the others, of which the oldest is dropped
 abbrev pub pastIn : AfrrState → Kw → List Kw
 pastIn st s = s ∷ take (reach - 1) (st .past)
+
+-- `old` was an extreme that `new` does not replace
+unfoldable pub isLost : Extremes → ℤ → ℤ → Bool
+isLost x new old =
+    (ltZ new (x .highest .0) && leZ (x .highest .0) old) || (ltZ (x .lowest .0) new && leZ old (x .lowest .0))
+
+-- the extremes x once `new` has joined the setpoints and `old` has left them: all are looked at where one was lost, and p holds them
+unfoldable pub nextExtremes : Extremes → List Kw → ℤ → ℤ → Extremes
+nextExtremes x p new old =
+    cond (isLost x new old) (earlierIn p) (record { highest = kw (maxZ (x .highest .0) new); lowest = kw (minZ (x .lowest .0) new) })
+
+abbrev pub earlierNext : AfrrState → Kw → Extremes
+earlierNext st s = nextExtremes (st .earlier) (pastIn st s) (at (st .past) (reaction - 2)) (at (st .past) (reach - 1))
 
 unfoldable pub stepIn : AfrrState → Second → AfrrStep
 stepIn st x =
     record {
       band = publishedOf (limitsIn st x);
-      state = record { past = pastIn st (x .setpoint); earlier = earlierIn (pastIn st (x .setpoint)); limits = limitsIn st x };
+      state = record { past = pastIn st (x .setpoint); earlier = earlierNext st (x .setpoint); limits = limitsIn st x };
     }
 
 pub record Stepped (st : AfrrState) (x : Second) (r : AfrrStep) : Type 0 where
@@ -77,15 +96,6 @@ pub record Stepped (st : AfrrState) (x : Second) (r : AfrrStep) : Type 0 where
   pub ready : Ready (r .state)
 
 -- ---- what the other operations answer and ask
-
--- the setpoints that the gradient went by a second before it went by those of p: all but the newest of these, and `old`
-abbrev pub earlierBefore : List Kw → Kw → List Kw
-earlierBefore p old = ago (reaction + 1) reach p ++ (old ∷ [])
-
--- `old` was an extreme that `new` does not replace
-unfoldable pub isLost : Extremes → ℤ → ℤ → Bool
-isLost x new old =
-    (ltZ new (x .highest .0) && leZ (x .highest .0) old) || (ltZ (x .lowest .0) new && leZ old (x .lowest .0))
 
 pub record Holds (x : Second) (r : Kw) : Type 0 where
   pub held : r .0 ≡ heldOf x
@@ -109,5 +119,5 @@ pub record Sources (recent last g s five : ℤ) : Type 0 where
 -- the state after a second with the setpoint s and the limits l, which stay exact
 pub record Moved (st : AfrrState) (s : Kw) (l : Limits) (r : AfrrState) : Type 0 where
   pub past : r .past ≡ pastIn st s
-  pub earlier : r .earlier ≡ earlierIn (r .past)
+  pub earlier : r .earlier ≡ earlierNext st s
   pub limits : r .limits ≡ l

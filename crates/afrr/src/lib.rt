@@ -9,9 +9,8 @@ ghost use mir.Syntax.{w64};
 ghost use mir.Val.{SFits};
 ghost use Rattle.numbers.specs.Bounds.{Within};
 ghost use Rattle.power.specs.Units.{mostReserve};
-ghost use Rattle.power.specs.Past.{at};
-ghost use Rattle.afrr.specs.Band.{reach, reaction, spread, ago, gradientBy, nextUpper, nextLower, limitsFrom};
-ghost use Rattle.afrr.specs.State.{extremesIn, earlierIn, stateOf, Ready, Fair, Stepped, earlierBefore, isLost, Holds, Sources, Moved};
+ghost use Rattle.afrr.specs.Band.{reach, spread, ago, nextUpper, nextLower};
+ghost use Rattle.afrr.specs.State.{extremesIn, stateOf, Ready, Fair, gradientIn, limitsIn, isLost, nextExtremes, Stepped, Holds, Sources, Moved};
 use power::Band;
 use power::Grains;
 use power::Kw;
@@ -82,8 +81,7 @@ fn is_lost(x: Extremes, new: Kw, old: Kw) -> bool
 
 // The extremes of the setpoints 30 or more seconds ago, which `new` has just joined and `old` has just left, from those before, `x`.
 fn next_extremes(x: Extremes, past: [Kw; REACH], new: Kw, old: Kw) -> Extremes
-    requires { ⌜ (x ≡ extremesIn (earlierBefore past old)) × (new .0 ≡ at past (reaction - 1)) ⌝ }
-    ensures { λ r. ⌜ r ≡ earlierIn past ⌝ }
+    ensures { λ r. ⌜ r ≡ nextExtremes x past (new .0) (old .0) ⌝ }
 {
     if is_lost(x, new, old) {
         return extremes_of(past, REACTION, REACH);
@@ -106,7 +104,7 @@ fn spread_over(g: Grains) -> Grains
 // What a limit moves in a second, by the extremes of the setpoints 30 or more seconds ago.
 fn gradient_of(x: Extremes) -> Grains
     requires { ⌜ Within mostReserve (x .highest .0) × Within mostReserve (x .lowest .0) ⌝ }
-    ensures { λ r. ⌜ r .0 ≡ gradientBy (x .highest .0) (x .lowest .0) ⌝ }
+    ensures { λ r. ⌜ r .0 ≡ gradientIn x ⌝ }
 {
     let highest = x.highest;
     let lowest = x.lowest;
@@ -153,7 +151,7 @@ fn next_lower(recent: Kw, last: Grains, g: Grains, s: Kw, five: Grains) -> Grain
 // The limits of the second `x`, from those of the last one.
 fn limits_of(state: AfrrState, x: Second) -> Limits
     requires { ⌜ Ready state × Fair x ⌝ }
-    ensures { λ r. ⌜ r ≡ limitsFrom (state .past) (state .limits) x ⌝ }
+    ensures { λ r. ⌜ r ≡ limitsIn state x ⌝ }
 {
     let past = state.past;
     let earlier = state.earlier;
@@ -205,7 +203,6 @@ pub fn new() -> AfrrState
 
 // The state after a second with the setpoint `s` and the limits `limits`, which stay exact.
 fn moved(state: AfrrState, s: Kw, limits: Limits) -> AfrrState
-    requires { ⌜ Ready state ⌝ }
     ensures { λ r. ⌜ Moved state s limits r ⌝ }
 {
     let before = state.past;
