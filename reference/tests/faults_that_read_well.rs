@@ -1,5 +1,8 @@
 //! Document 01's five "faults that read well": for each a small input, what is given on it, and what the fault gives.
 
+mod full_case;
+
+use full_case::full_case;
 use reference::line::{row_lines, second_line};
 use reference::maker::book_bytes;
 use reference::program::output_of;
@@ -33,29 +36,6 @@ fn rounding_each_share_alone() {
         let fault = format!("0 U {} {} 0 0 A 0 0 0 {} B 0 0 0 0", share, share, 2 * share);
         assert_ne!(given[0], fault);
     }
-}
-
-fn full_case() -> [Record; 3] {
-    let unit = Record {
-        measured: 4931,
-        working_point: 5000,
-        fcr_held: 400,
-        deviation: 50,
-        afrr_held_up: 1000,
-        afrr_held_down: 1000,
-        status: 3,
-        ..Record::default()
-    };
-    let a = Record { fcr_held: 400, deviation: 50, status: 1, ..Record::default() };
-    let b = Record {
-        measured: 200,
-        working_point: 180,
-        afrr_held_up: 1000,
-        afrr_held_down: 1000,
-        status: 2,
-        ..Record::default()
-    };
-    [unit, a, b]
 }
 
 /// The full case: error 31, bands -120 to 0 around -100 and -50 to 50 around 0. With the widths 120 and 100 as

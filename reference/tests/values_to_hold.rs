@@ -1,5 +1,8 @@
 //! Every value of document 01's "Values to hold", and the full case.
 
+mod full_case;
+
+use full_case::full_case;
 use reference::line::{row_lines, second_line};
 use reference::maker::book_bytes;
 use reference::plant::{Plant, Row};
@@ -12,35 +15,6 @@ use reference::{fcr, mfrr, power};
 fn second(plant: &mut Plant, record: Record) -> Row {
     let accepted = plant.consider(&record.write()).expect("an accepted second");
     plant.second(accepted, record.measured as i64, record.working_point as i64)
-}
-
-/// The full case's second.
-fn full_case() -> [Record; 3] {
-    let unit = Record {
-        measured: 4931,
-        working_point: 5000,
-        fcr_held: 400,
-        deviation: 50,
-        afrr_held_up: 1000,
-        afrr_held_down: 1000,
-        status: 3,
-        ..Record::default()
-    };
-    let a = Record {
-        fcr_held: 400,
-        deviation: 50,
-        status: 1,
-        ..Record::default()
-    };
-    let b = Record {
-        measured: 200,
-        working_point: 180,
-        afrr_held_up: 1000,
-        afrr_held_down: 1000,
-        status: 2,
-        ..Record::default()
-    };
-    [unit, a, b]
 }
 
 #[test]

@@ -10,6 +10,7 @@ ghost use Rattle.line.specs.Lined.{lengthIn};
 pub use book_lines::refusal_line;
 pub use book_lines::second_line;
 pub use book_lines::sum_line;
+pub use row_lines::ROW_ROOM;
 pub use row_lines::plant_line;
 
 // The refusal of a buffer with too little room.

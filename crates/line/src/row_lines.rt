@@ -13,8 +13,8 @@ ghost use Rattle.line.specs.Widths.{rowRoom, kindWidth};
 ghost use Rattle.line.specs.Line.{kindText, rowText};
 ghost use Rattle.line.specs.Lined.{Lined};
 
-// The least buffer that this line writer takes.
-const LEAST: usize = 256;
+// The least buffer that this line writer takes; no line needs more.
+pub const ROW_ROOM: usize = 256;
 
 // One kind's setpoint, band, share and actual value, each after a space.
 fn put_kind(buf: &mut [u8], at: usize, k: KindRow) -> usize
@@ -47,7 +47,7 @@ fn put_row(buf: &mut [u8], second: u32, letter: u8, x: Row) -> usize
 pub fn plant_line(buf: &mut [u8], second: u32, letter: u8, x: Row) -> Answer
     ensures { λ r. ⌜ Lined rowRoom (now (buf .entry)) (now (buf .exit)) r (rowText second letter x) ⌝ }
 {
-    if buf.len() < LEAST {
+    if buf.len() < ROW_ROOM {
         return Answer::Refused(TOO_SMALL);
     }
     Answer::Length(put_row(buf, second, letter, x))

@@ -1,7 +1,7 @@
 // Reads a book from standard input and prints it (01, "Blocks and text"): full blocks in, the proved crates called, text out. Blocks are
-// read many at a time, and text is collected in one buffer that is written when it is nearly full, so memory does not grow with the book. No contract can say what is
-// read or written. What a block adds to the text, for any bytes, is the contract of `run_block` (src/run.rt); that of the last line is
-// `last_line`'s (src/lines.rt).
+// read many at a time, and text is collected in one buffer that is written when it is nearly full, so memory does not grow with the book.
+// No contract can say what is read or written. What a block adds to the text, for any bytes, is the contract of `run_block` (src/run.rt);
+// that of the last line is `last_line`'s (src/lines.rt).
 mod lines;
 mod run;
 
@@ -41,10 +41,8 @@ const PER_BLOCK: u32 = block::PER_BLOCK as u32;
 // The blocks that are read together, so that few calls read a book.
 const AT_ONCE: u32 = 128;
 
-// The bytes that a line takes at most, and those that a block's lines take, three a second; the last line takes no more.
-const LINE_ROOM: usize = 256;
-
-const ROOM: usize = 3 * LINE_ROOM * PER_BLOCK as usize;
+// The bytes that a block's lines take at most, three a second; the last line takes no more than one.
+const ROOM: usize = 3 * line::ROW_ROOM * block::PER_BLOCK;
 
 fn send(out: &[u8], end: usize)
     requires { ⌜ end ≤ length (now out) ⌝ }
