@@ -1,6 +1,6 @@
 -- The figures of a block (01, "Blocks and text").
-use Prim.Native.Nat.{ℕ, _*_}
-use Rattle.record.specs.Record.{size}
+use Prim.Native.Nat.{ℕ}
+use Rattle.record.specs.Record.{bookSize}
 
 -- "512 bytes each"
 abbrev pub blockSize : ℕ
@@ -15,7 +15,7 @@ abbrev pub bodyAt : ℕ
 bodyAt = 16
 
 abbrev pub secondSize : ℕ
-secondSize = 3 * size
+secondSize = bookSize
 
 -- "seconds in it (4, fewer only in the last)"
 abbrev pub perBlock : ℕ

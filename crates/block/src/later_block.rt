@@ -16,7 +16,7 @@ const COUNT_AT: usize = 4;
 // The first second's place, and the bytes of a second.
 const BODY_AT: usize = 16;
 
-const SECOND: usize = 3 * record::SIZE;
+const SECOND: usize = record::BOOK_SIZE;
 
 // The seconds of a block that is not the last.
 pub const PER_BLOCK: usize = 4;

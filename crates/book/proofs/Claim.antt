@@ -1,6 +1,6 @@
 -- Demand 3, about every list of book seconds. Assumes nothing.
 use mathlib.Core.Path.{_≡_, refl, sym, ap, _∙_}
-use mathlib.Core.Logic.{_⊎_, inl, inr, ⊎-elim}
+use mathlib.Core.Logic.{_⊎_, ⊎-elim}
 use mathlib.Core.List.{List, [], _∷_}
 use Prim.Native.Nat.{ℕ, zero, suc}
 use lib.IntN.{ℤ, pos, _+ℤ_, +ℤ-assoc, +ℤ-comm, +ℤ-idl, +ℤ-idr}
@@ -9,15 +9,14 @@ use Rattle.numbers.specs.Rules.{orElse}
 use Rattle.numbers.proofs.Parts.{shows, eq-up, eq-dn, add-nat}
 use Rattle.row.specs.declared.Row.{Row}
 use Rattle.row.specs.declared.sums.Sums.{Sums}
-use Rattle.record.specs.Record.{recordOf}
 use Rattle.plant.proofs.Run.{record-number, row-holds}
 use Rattle.book.specs.declared.Book.{Book}
 use Rattle.book.specs.declared.BookStep.{BookStep}
 use Rattle.book.specs.declared.BookAnswer.the-variants.{Rows}
 use Rattle.book.specs.Seconds.{BookSecond, History, unitBytes, aBytes, bBytes, pastOf, dueOf}
-use Rattle.book.specs.Rows.{unitRowAt, aRowAt, bRowAt, unitPoint, valuesOf, soldByA, soldByB, formNumber, unitNumber, aNumber, bNumber, numberAt, answerBy, answerAt, bookFigures, saidBy, saidAt, says, numberIn, grownBy, grown}
+use Rattle.book.specs.Rows.{unitRowAt, aRowAt, bRowAt, formNumber, unitNumber, aNumber, bNumber, numberAt, answerBy, answerAt, bookFigures, saidBy, saidAt, says, numberIn, grownBy, grown}
 use Rattle.book.specs.State.{actualsOf, openOf, sumsWith, fresh, stepIn}
-use Rattle.book.specs.Run.{after, ThreeRows, withRows, rows, accepted, sumOf, sumA, sumB, sumOpen, sumDue}
+use Rattle.book.specs.Run.{after, ThreeRows, withRows, rows, accepted, sumOf}
 use Rattle.book.specs.Claim.{AtSecond, EachSecond, Claim}
 use Rattle.book.proofs.Past.{Follows, fresh-follows, next, Taken, Turned, judged, next-follows}
 use Rattle.book.proofs.Balance.{second-balance}

@@ -1,20 +1,20 @@
 -- A book second's form: 12 and 16, and the bytes of the three plants. Assumes nothing.
 use mathlib.Core.Path.{_≡_, refl, sym, _∙_}
-use mathlib.Core.List.{List, [], _∷_}
+use mathlib.Core.List.{List}
 use Prim.Native.Nat.{ℕ, zero, suc, _-_, _≤_}
 use native.Mathlib.Omega.{arith}
-use borrow.Author.Tests.{eqb-true, not-false, ltb-false}
+use borrow.Author.Tests.{eqb-true, not-false}
 use lib.Dec.{eqb}
 use lib.ListN.{length, take, drop, length-take, length-drop}
 use lib.Seq.{take-all}
 use Rattle.numbers.proofs.Rules.{none}
-use Rattle.record.specs.Record.{size}
+use Rattle.record.specs.Record.{size, bookSize}
 use Rattle.book.specs.declared.Book.{Book}
 use Rattle.book.specs.declared.BookAnswer.the-variants.{Refused}
 use Rattle.book.specs.declared.BookStep.{BookStep}
-use Rattle.book.specs.Seconds.{BookSecond, bookSize, unitBytes, aBytes, bBytes}
+use Rattle.book.specs.Seconds.{unitBytes, aBytes, bBytes}
 use Rattle.book.specs.Rows.{formRules, formNumber}
-use Rattle.book.specs.State.{secondOf, plantsIn, stepBy, stepIn, PartsOf, PlantsStepped, Ready, Stepped}
+use Rattle.book.specs.State.{secondOf, stepBy, stepIn, PartsOf, PlantsStepped, Ready, Stepped}
 
 pub whole : (o : ℕ) (s : List ℕ) → formNumber (secondOf o s) ≡ 0 → length s ≡ bookSize
 unfolding formNumber

@@ -3,7 +3,7 @@ use mathlib.Core.Path.{_≡_, refl, sym, ap, _∙_}
 use mathlib.Core.Logic.{_⊎_, inl, inr}
 use mathlib.Core.List.{List, [], _∷_}
 use Prim.Native.Nat.{ℕ, zero, suc}
-use lib.IntN.{ℤ, pos, _+ℤ_}
+use lib.IntN.{ℤ, pos}
 use native.Mathlib.Nat.{not-suc-le-zero, le-of-eq}
 use Rattle.numbers.specs.Rules.{orElse}
 use Rattle.numbers.proofs.Rules.{neither}
@@ -18,9 +18,9 @@ use Rattle.plant.proofs.Run.{record-number, also-accepted, none-accepted}
 use Rattle.book.specs.declared.Book.{Book}
 use Rattle.book.specs.declared.BookAnswer.the-variants.{Rows}
 use Rattle.book.specs.declared.BookStep.{BookStep}
-use Rattle.book.specs.declared.Plant.the-variants.{Unit, A, B}
+use Rattle.book.specs.declared.Plant.the-variants.{A, B}
 use Rattle.book.specs.Seconds.{BookSecond, History, unitBytes, aBytes, bBytes, pastOf, dueOf}
-use Rattle.book.specs.Rows.{valuesOf, soldByA, soldByB, unitPoint, unitRowAt, aRowAt, bRowAt, formNumber, unitNumber, aNumber, bNumber, numberAt, answerBy, answerAt}
+use Rattle.book.specs.Rows.{unitRowAt, aRowAt, bRowAt, formNumber, unitNumber, aNumber, bNumber, numberAt, answerBy, answerAt}
 use Rattle.book.specs.State.{fresh, unitIn, aIn, bIn, sumsWith, acceptedIn, onRow, refusedBy, plantsIn, stepBy, stepIn}
 
 -- each plant's state is the one that its own accepted seconds leave

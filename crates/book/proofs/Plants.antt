@@ -1,13 +1,13 @@
 -- The book second from any book, plant by plant. Assumes nothing.
-use mathlib.Core.Path.{_≡_, refl, sym, ap, _∙_, subst}
+use mathlib.Core.Path.{_≡_, ap, _∙_}
 use mathlib.Core.List.{List}
-use Prim.Native.Nat.{ℕ, _+_, _*_, _≤_}
+use Prim.Native.Nat.{ℕ, _+_, _≤_}
 use native.Mathlib.Omega.{arith}
 use lib.IntN.{ℤ, pos, _+ℤ_}
 use Rattle.numbers.specs.Bounds.{Within}
 use Rattle.numbers.proofs.Fit.{within-lit}
 use Rattle.record.specs.declared.Record.{Record}
-use Rattle.record.specs.Record.{recordOf, bitsOf}
+use Rattle.record.specs.Record.{recordOf}
 use Rattle.row.specs.declared.Row.{Row}
 use Rattle.row.specs.declared.sums.Sums.{Sums}
 use Rattle.sharing.specs.Sizes.{SizedRow}
@@ -26,7 +26,7 @@ use Rattle.book.specs.declared.Book.{Book}
 use Rattle.book.specs.declared.BookAnswer.the-variants.{Rows}
 use Rattle.book.specs.declared.BookStep.{BookStep}
 use Rattle.book.specs.declared.Plant.the-variants.{Unit, A, B}
-use Rattle.book.specs.Seconds.{BookSecond, unitBytes, aBytes, bBytes, dueFrom, dueOf}
+use Rattle.book.specs.Seconds.{aBytes, bBytes, dueFrom, dueOf}
 use Rattle.book.specs.Rows.{valuesOf, soldByA, soldByB, unitPoint}
 use Rattle.book.specs.State.{secondOf, unitIn, aIn, bIn, sumsWith, refusedBy, plantsIn, mostAtUnit, mostAtPool, Ready, SumsReady, InRange, Summed, PartsOf, PlantsStepped}
 use Rattle.book.proofs.Sizes.{due-small, sums-longer, sums-more}

@@ -1,10 +1,8 @@
 -- A second's figures and their sums are small enough. Assumes nothing.
-use mathlib.Core.Path.{_≡_, sym, ap}
 use mathlib.Core.Bool.{Bool}
 use Prim.Native.Nat.{ℕ, _+_, _*_, _≤_, zero-le}
 use native.Mathlib.Nat.{mul-le-mul-right}
 use native.Mathlib.Omega.{arith}
-use lib.Dec.{T, leb}
 use lib.IntN.{ℤ, pos, _+ℤ_, +ℤ-idr}
 use Rattle.numbers.specs.Bounds.{Within}
 use mir.Syntax.{w32, w64}

@@ -1,14 +1,8 @@
 -- Demand 3 whole, as one claim about every list of book seconds from a fresh book. The proof is `claim` of proofs/Claim.antt.
-use Prim.Native.Nat.{ℕ, _≤_}
 use mathlib.Core.Path.{_≡_}
-use mathlib.Core.Logic.{_↔_}
-use mathlib.Core.Bool.{true}
 use mathlib.Core.List.{List, [], _∷_}
-use lib.IntN.{ℤ, pos, natAbs, _+ℤ_}
-use Rattle.record.specs.declared.Record.{Record}
+use lib.IntN.{pos, _+ℤ_}
 use Rattle.record.specs.Record.{recordOf}
-use Rattle.row.specs.declared.Row.{Row}
-use Rattle.plant.specs.Seconds as plant-seconds
 use Rattle.plant.specs.Rows as plant
 use Rattle.plant.specs.Run.{RowHolds}
 use Rattle.book.specs.declared.Book.{Book}
@@ -16,7 +10,7 @@ use Rattle.book.specs.declared.BookAnswer.the-variants.{Rows}
 use Rattle.book.specs.Seconds.{BookSecond, History, unitBytes, aBytes, bBytes, pastOf}
 use Rattle.book.specs.Rows.{valuesOf, soldByA, soldByB, unitPoint, unitRowAt, aRowAt, bRowAt, numberAt, says, saidAt, numberIn, answerAt, grown}
 use Rattle.book.specs.State.{fresh, stepIn}
-use Rattle.book.specs.Run.{after, accepted, sumA, sumB, sumOpen, sumDue}
+use Rattle.book.specs.Run.{after, sumA, sumB, sumOpen, sumDue}
 
 -- second s of the list, at the book k, where h are the seconds accepted before it
 pub record AtSecond (k : Book) (h : History) (s : BookSecond) : Type 0 where

@@ -7,7 +7,7 @@ use lib.IntN.{ℤ, pos, _+ℤ_}
 use lib.ListN.{length}
 use Rattle.numbers.specs.Rules.{Rule, refuse, first, differ, orElse}
 use Rattle.record.specs.declared.KindBits.{KindBits}
-use Rattle.record.specs.Record.{allKinds, recordOf, bitsOf}
+use Rattle.record.specs.Record.{bookSize, allKinds, recordOf, bitsOf}
 use Rattle.row.specs.declared.KindRow.{KindRow}
 use Rattle.row.specs.declared.Row.{Row}
 use Rattle.plant.specs.Rows as plant
@@ -15,7 +15,7 @@ use Rattle.book.specs.declared.BookAnswer.{BookAnswer}
 use Rattle.book.specs.declared.BookAnswer.the-variants.{Rows, Refused, RefusedBy}
 use Rattle.book.specs.declared.Plant.{Plant}
 use Rattle.book.specs.declared.Plant.the-variants.{Unit, A, B}
-use Rattle.book.specs.Seconds.{BookSecond, History, bookSize, unitBytes, aBytes, bBytes, pastOf}
+use Rattle.book.specs.Seconds.{BookSecond, History, unitBytes, aBytes, bBytes, pastOf}
 
 -- ---- the unit's values
 

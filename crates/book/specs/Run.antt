@@ -1,5 +1,4 @@
 -- A list of book seconds, refused ones included wherever they fall.
-use Prim.Native.Nat.{ℕ, zero, suc}
 use mathlib.Core.List.{List, [], _∷_}
 use lib.IntN.{ℤ, pos, _+ℤ_}
 use Rattle.row.specs.declared.Row.{Row}

@@ -16,9 +16,6 @@ pub record BookSecond : Type 0 where
 abbrev pub History : Type 0
 History = List BookSecond
 
-abbrev pub bookSize : ℕ
-bookSize = 3 * size
-
 abbrev pub unitBytes : List ℕ → List ℕ
 unitBytes s = take size s
 

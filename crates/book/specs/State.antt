@@ -1,5 +1,5 @@
 -- A book second from any book: the rules of specs/Rows.antt, on what the book holds.
-use Prim.Native.Nat.{ℕ, zero, suc, _+_, _*_, _≤_}
+use Prim.Native.Nat.{ℕ, zero, suc, _+_, _*_}
 use mathlib.Core.Path.{_≡_}
 use mathlib.Core.List.{List, []}
 use lib.IntN.{ℤ, pos, _+ℤ_}
@@ -18,7 +18,6 @@ use Rattle.plant.specs.Rows as plant-rows
 use Rattle.plant.specs.State as plant
 use Rattle.plant.specs.State.{mostAdded}
 use Rattle.plant.specs.Refusals.{mostPower}
-use Rattle.plant.specs.declared.PlantState.{PlantState}
 use Rattle.sharing.specs.Sizes.{SizedRow}
 use Rattle.book.specs.declared.Book.{Book}
 use Rattle.book.specs.declared.BookAnswer.the-variants.{Rows, Refused, RefusedBy}

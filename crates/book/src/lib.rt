@@ -21,9 +21,6 @@ ghost use Rattle.record.specs.Record.{size};
 ghost use Rattle.book.specs.Rows.{formNumber};
 ghost use Rattle.book.specs.State.{secondOf, fresh, refusedBy, Ready, PlantsStepped, Stepped};
 
-// The bytes of a book second.
-const SIZE: usize = 3 * record::SIZE;
-
 // The plants of a book.
 pub enum Plant {
     Unit,
@@ -55,7 +52,7 @@ pub struct BookStep {
 fn form_number(owner: u8, bytes: &[u8]) -> u8
     ensures { λ r. ⌜ r ≡ formNumber (secondOf owner (now (bytes .entry))) ⌝ }
 {
-    if bytes.len() != SIZE {
+    if bytes.len() != record::BOOK_SIZE {
         return 12;
     }
     if record::ALL_KINDS < owner {

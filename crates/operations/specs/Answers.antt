@@ -2,9 +2,8 @@
 -- `answers` of proofs/Answers.antt.
 use mathlib.Core.Path.{_≡_}
 use Rattle.row.specs.declared.sums.Sums.{Sums}
-use Rattle.record.specs.Record.{size, mostSeconds}
+use Rattle.record.specs.Record.{size, bookSize, mostSeconds}
 use Rattle.plant.specs.declared.PlantState.{PlantState}
-use Rattle.book.specs.Seconds.{bookSize}
 use Rattle.operations.specs.Numbers.{plantNumber, bookNumber, lineNumber, blank, blankNumber}
 
 pub record Answers : Type 0 where

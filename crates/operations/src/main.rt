@@ -19,9 +19,6 @@ ghost use Rattle.operations.specs.Numbers.{plantNumber, bookNumber, line
 // The seconds of the book that a block is read for: it has one block.
 const SECONDS: u32 = block::PER_BLOCK as u32;
 
-// The bytes of a book second.
-const SECOND_SIZE: usize = 3 * record::SIZE;
-
 // A plant after that many seconds of 0 alone: no kind is on, so each is accepted while a book may be longer.
 fn after_blank(seconds: u32) -> PlantState
     ensures { λ r. ⌜ Ready r ⌝ }
@@ -137,7 +134,7 @@ fn plant_after_all() {
 }
 
 fn owner_8() {
-    let second = [0u8; SECOND_SIZE];
+    let second = [0u8; record::BOOK_SIZE];
     report(b"book-second-owner-8", book_number(8, &second));
 }
 

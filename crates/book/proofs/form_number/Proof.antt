@@ -1,5 +1,4 @@
 -- `book::form_number` meets its contract. Assumes nothing.
-use Rattle.numbers.proofs.Test.{tests}
 use Rattle.book.specs.Rows.{formNumber}
 use borrow.Author.Tests.{eq-eqb, ne-eqb, lt-ltb, le-ltb}
 use Rattle.book.proofs.form_number.Statement.{statement}
