@@ -16,11 +16,12 @@ use Rattle.record.specs.Record.{mostSeconds}
 use Rattle.block.specs.Places.{blockSize, perBlock}
 use Rattle.block.specs.Block.{blockNumber, blockOf, blockSays, countOf}
 use Rattle.block.proofs.Taken.{header-fields, block-fields, block-zero, whole-block}
-use Rattle.line.proofs.Puts.{loosen, none}
+use Rattle.codec.proofs.Puts.{loosen, none}
 use Rattle.report.specs.declared.run.Plan.{Plan}
 use Rattle.report.specs.declared.run.Verdict.the-variants.{Refused}
 use Rattle.report.specs.Text.{blockRoom}
-use Rattle.report.specs.Running.{refusedAt, secondsIn, secondsFrom, blockBy, blockIn, runOf, Adds}
+use Rattle.report.specs.Printed.{secondsFrom}
+use Rattle.report.specs.Running.{refusedAt, secondsIn, blockBy, blockIn, runOf, Adds}
 
 pub few : (s : List ℕ) {r : Header} {o t : ℕ} → r ≡ header.Fields o t → headerSays r ≡ headerOf s → t ≤ mostSeconds
 few s {o = o} {t} is says =

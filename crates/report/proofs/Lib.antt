@@ -1,3 +1,4 @@
 pub mod Adding
 pub mod Seconds
 pub mod Blocks
+pub mod Bytes

@@ -10,17 +10,18 @@ ghost use lib.ListN.{length};
 ghost use Rattle.book.specs.State.{Ready};
 ghost use Rattle.block.specs.Places.{blockSize, perBlock};
 ghost use Rattle.report.specs.Text.{secondRoom, blockRoom};
-ghost use Rattle.report.specs.Running.{runOf, secondIn, secondsIn, secondsFrom, blockIn, Adds};
+ghost use Rattle.report.specs.Printed.{secondsFrom};
+ghost use Rattle.report.specs.Running.{runOf, secondIn, secondsIn, blockIn, Adds};
 
 // How a book is run: the form of its lines, and what its header gives.
-pub(crate) struct Plan {
+pub struct Plan {
     pub form: Form,
     pub owner: u8,
     pub seconds: u32,
 }
 
 // All accepted so far, or the number of the refusal that ends the text.
-pub(crate) enum Verdict {
+pub enum Verdict {
     Accepted,
     Refused(u8),
 }
