@@ -3,11 +3,11 @@
 use libc::STDERR_FILENO;
 use libc::STDIN_FILENO;
 use libc::STDOUT_FILENO;
+use pieces::Reading;
 use report::Form;
-use report::Reading;
 ghost use Prim.Native.Nat.{_≤_};
 ghost use lib.ListN.{length};
-ghost use Rattle.report.specs.Running.{ReadingReady, pieceSize, pieceRoom};
+ghost use Rattle.pieces.specs.Pieces.{ReadingReady, pieceSize, pieceRoom};
 
 // No book is longer, with the byte that is looked for after its last block.
 const MOST_BYTES: usize = block::SIZE * (1 + record::MOST_SECONDS as usize) + 1;
@@ -30,8 +30,8 @@ fn say(text: &[u8]) {
 
 // Prints the book on standard input.
 pub fn print_book(form: Form) {
-    let mut bytes = [0; report::PIECE];
-    let mut out = [0; report::PIECE_ROOM];
+    let mut bytes = [0; pieces::PIECE];
+    let mut out = [0; pieces::PIECE_ROOM];
     let mut reading = Reading::new(form);
     let mut left = MOST_BYTES;
     while left > 0 {
