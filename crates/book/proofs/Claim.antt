@@ -4,9 +4,7 @@ use mathlib.Core.Logic.{_⊎_, ⊎-elim}
 use mathlib.Core.List.{List, [], _∷_}
 use Prim.Native.Nat.{ℕ, zero, suc}
 use lib.IntN.{ℤ, pos, _+ℤ_, +ℤ-assoc, +ℤ-comm, +ℤ-idl, +ℤ-idr}
-use native.Mathlib.Omega.{arith}
 use Rattle.numbers.specs.Rules.{orElse}
-use Rattle.numbers.proofs.Parts.{shows, eq-up, eq-dn, add-nat}
 use Rattle.row.specs.declared.Row.{Row}
 use Rattle.row.specs.declared.sums.Sums.{Sums}
 use Rattle.plant.proofs.Run.{record-number, row-holds}
@@ -16,8 +14,8 @@ use Rattle.book.specs.declared.BookAnswer.the-variants.{Rows}
 use Rattle.book.specs.Seconds.{BookSecond, History, unitBytes, aBytes, bBytes, pastOf, dueOf}
 use Rattle.book.specs.Rows.{unitRowAt, aRowAt, bRowAt, formNumber, unitNumber, aNumber, bNumber, numberAt, answerBy, answerAt, bookFigures, saidBy, saidAt, says, numberIn, grownBy, grown}
 use Rattle.book.specs.State.{actualsOf, openOf, sumsWith, fresh, stepIn}
-use Rattle.book.specs.Run.{after, ThreeRows, withRows, rows, accepted, sumOf}
-use Rattle.book.specs.Claim.{AtSecond, EachSecond, Claim}
+use Rattle.book.specs.Run.{after, Judged, acceptedBy, accepted, sumOf, ofA, ofB, ofOpen, ofDue}
+use Rattle.book.specs.Claim.{OfPast, AtSecond, EachSecond, Claim}
 use Rattle.book.proofs.Past.{Follows, fresh-follows, next, Taken, Turned, judged, next-follows}
 use Rattle.book.proofs.Balance.{second-balance}
 
@@ -26,8 +24,8 @@ use Rattle.book.proofs.Balance.{second-balance}
 abbrev due : BookSecond → ℤ
 due s = dueOf (s .bytes)
 
-abbrev three : History → BookSecond → ThreeRows
-three h s = record { unit = unitRowAt h s; a = aRowAt h s; b = bRowAt h s }
+abbrev judgement : History → BookSecond → Judged
+judgement h s = record { past = h; second = s }
 
 grown-more : (h : History) (s : BookSecond) → numberAt h s ≡ 0 → grown h s ≡ s ∷ h
 unfolding grown
@@ -41,47 +39,35 @@ grown-same h s n = go (numberAt h s) n
     go zero q = absurd (q refl)
     go (suc m) q = refl
 
--- a refusal has no rows
-by-numbers : (nf nu na nb : ℕ) (u a b : Row) (rs : List ThreeRows) → (orElse nf (orElse nu (orElse na nb)) ≡ 0 → ⊥) → withRows (answerBy nf nu na nb u a b) rs ≡ rs
-by-numbers (suc n) nu na nb u a b rs q = refl
-by-numbers zero (suc n) na nb u a b rs q = refl
-by-numbers zero zero (suc n) nb u a b rs q = refl
-by-numbers zero zero zero (suc n) u a b rs q = refl
-by-numbers zero zero zero zero u a b rs q = absurd (q refl)
+accepted-more : (h : History) (s : BookSecond) (ss : List BookSecond) → numberAt h s ≡ 0 → accepted h (s ∷ ss) ≡ record { past = h; second = s } ∷ accepted (s ∷ h) ss
+unfolding accepted
+accepted-more h s ss e = rw (e, grown-more h s e)
 
-no-rows : (h : History) (s : BookSecond) (rs : List ThreeRows) → (numberAt h s ≡ 0 → ⊥) → withRows (answerAt h s) rs ≡ rs
-unfolding answerAt numberAt
-no-rows h s rs q = by-numbers (formNumber s) (unitNumber h s) (aNumber h s) (bNumber h s) _ _ _ rs q
+accepted-same : (h : History) (s : BookSecond) (ss : List BookSecond) → (numberAt h s ≡ 0 → ⊥) → accepted h (s ∷ ss) ≡ accepted h ss
+unfolding accepted
+accepted-same h s ss n = rw (grown-same h s n) (go (numberAt h s) n)
+  where
+    go : (m : ℕ) → (m ≡ 0 → ⊥) → acceptedBy m h s (accepted h ss) ≡ accepted h ss
+    go zero q = absurd (q refl)
+    go (suc m) q = refl
 
 module _ (k : Book) (h : History) (f : Follows k h) (s : BookSecond) (ss : List BookSecond) where
-  -- what a taken second does to the book, the rows and the accepted seconds
+  -- what a taken second does to the book and the accepted seconds
   pub record TakenOn : Type 0 where
     pub after-is : after k (s ∷ ss) ≡ after (next k h f s) ss
-    pub rows-is : rows k (s ∷ ss) ≡ three h s ∷ rows (next k h f s) ss
-    pub accepted-is : accepted h (s ∷ ss) ≡ accepted (s ∷ h) ss
+    pub accepted-is : accepted h (s ∷ ss) ≡ judgement h s ∷ accepted (s ∷ h) ss
 
   taken-on : Taken k h f s → TakenOn
-  unfolding after rows accepted
-  taken-on t =
-      record {
-        after-is = ap (λ (p : BookStep). after (p .book) ss) (t .step);
-        rows-is = ap (λ (p : BookStep). withRows (p .answer) (rows (p .book) ss)) (t .step);
-        accepted-is = ap (λ (l : History). accepted l ss) (grown-more h s (t .number));
-      }
+  unfolding after
+  taken-on t = record { after-is = ap (λ (p : BookStep). after (p .book) ss) (t .step); accepted-is = accepted-more h s ss (t .number) }
 
   pub record TurnedOn : Type 0 where
     pub after-is : after k (s ∷ ss) ≡ after k ss
-    pub rows-is : rows k (s ∷ ss) ≡ rows k ss
     pub accepted-is : accepted h (s ∷ ss) ≡ accepted h ss
 
   turned-on : Turned k h f s → TurnedOn
-  unfolding after rows accepted
-  turned-on t =
-      record {
-        after-is = ap (λ (p : BookStep). after (p .book) ss) (t .step);
-        rows-is = ap (λ (p : BookStep). withRows (p .answer) (rows (p .book) ss)) (t .step) ∙ no-rows h s _ (t .number);
-        accepted-is = ap (λ (l : History). accepted l ss) (grown-same h s (t .number));
-      }
+  unfolding after
+  turned-on t = record { after-is = ap (λ (p : BookStep). after (p .book) ss) (t .step); accepted-is = accepted-same h s ss (t .number) }
 
 -- by what happens to the first second of a list
 module _ (k : Book) (h : History) (f : Follows k h) (s : BookSecond) (ss : List BookSecond) where
@@ -90,83 +76,43 @@ module _ (k : Book) (h : History) (f : Follows k h) (s : BookSecond) (ss : List 
 
 -- ---- the sums
 
-none : (k : Book) (h : History) → (after k [] ≡ k) × (rows k [] ≡ []) × (accepted h [] ≡ h)
-unfolding after rows accepted
-none k h = (refl, refl, refl)
+none : (k : Book) (h : History) → (after k [] ≡ k) × (accepted h [] ≡ [])
+unfolding after accepted
+none k h = (refl, refl)
 
 +ℤ-left : (a b c : ℤ) → a +ℤ (b +ℤ c) ≡ b +ℤ (a +ℤ c)
 +ℤ-left a b c = sym (+ℤ-assoc a b c) ∙ ap (λ (z : ℤ). z +ℤ c) (+ℤ-comm a b) ∙ +ℤ-assoc b a c
 
--- a sum that is kept in the book, by any column of the rows
+-- a sum that is kept in the book
 module _
-    (g : Sums → ℤ) (c : ThreeRows → ℤ)
-    (grows : (q : Sums) (h : History) (s : BookSecond) → g (sumsWith q (unitRowAt h s) (aRowAt h s) (bRowAt h s) (due s)) ≡ g q +ℤ c (three h s)) where
-  kept : (ss : List BookSecond) (k : Book) (h : History) → Follows k h → g (after k ss .sums) ≡ g (k .sums) +ℤ sumOf c (rows k ss)
+    (g : Sums → ℤ) (c : Judged → ℤ)
+    (grows : (q : Sums) (h : History) (s : BookSecond) → g (sumsWith q (unitRowAt h s) (aRowAt h s) (bRowAt h s) (due s)) ≡ g q +ℤ c (judgement h s)) where
+  kept : (ss : List BookSecond) (k : Book) (h : History) → Follows k h → g (after k ss .sums) ≡ g (k .sums) +ℤ sumOf c (accepted h ss)
   kept [] k h f = rw (none k h .0, none k h .1) (sym (+ℤ-idr (g (k .sums))))
   kept (s ∷ ss) k h f =
       either k h f s ss
-      (λ t w. rw (w .after-is, w .rows-is)
+      (λ t w. rw (w .after-is, w .accepted-is)
       (kept ss (next k h f s) (s ∷ h) (next-follows k h f s t)
-      ∙ ap (λ (z : ℤ). z +ℤ sumOf c (rows (next k h f s) ss)) (grows (k .sums) h s)
-      ∙ +ℤ-assoc (g (k .sums)) (c (three h s)) (sumOf c (rows (next k h f s) ss))))
-      (λ t w. rw (w .after-is, w .rows-is) (kept ss k h f))
-
--- due, over the accepted seconds
-kept-dues : (ss : List BookSecond) (k : Book) (h : History) → Follows k h → after k ss .sums .due .0 +ℤ sumOf due h ≡ k .sums .due .0 +ℤ sumOf due (accepted h ss)
-unfolding sumsWith
-kept-dues [] k h f = rw (none k h .0, none k h .2)
-kept-dues (s ∷ ss) k h f =
-    either k h f s ss
-    (λ t w. rw (w .after-is, w .accepted-is)
-    (moved (after (next k h f s) ss .sums .due .0) (sumOf due h) (k .sums .due .0) (due s) (sumOf due (accepted (s ∷ h) ss)) (kept-dues ss (next k h f s) (s ∷ h) (next-follows k h f s t))))
-    (λ t w. rw (w .after-is, w .accepted-is) (kept-dues ss k h f))
-  where
-    moved : (x y z d v : ℤ) → x +ℤ (d +ℤ y) ≡ (z +ℤ d) +ℤ v → x +ℤ y ≡ z +ℤ v
-    moved x y z d v e =
-        omega (
-          arith,
-          shows,
-          eq-up e,
-          eq-dn e,
-          add-nat d y,
-          add-nat x (d +ℤ y),
-          add-nat z d,
-          add-nat (z +ℤ d) v,
-          add-nat x y,
-          add-nat z v,
-        )
+      ∙ ap (λ (z : ℤ). z +ℤ sumOf c (accepted (s ∷ h) ss)) (grows (k .sums) h s)
+      ∙ +ℤ-assoc (g (k .sums)) (c (judgement h s)) (sumOf c (accepted (s ∷ h) ss))))
+      (λ t w. rw (w .after-is, w .accepted-is) (kept ss k h f))
 
 -- ---- the balance
 
-abbrev ofA : ThreeRows → ℤ
-ofA r = actualsOf (r .a)
-
-abbrev ofB : ThreeRows → ℤ
-ofB r = actualsOf (r .b)
-
-abbrev ofOpen : ThreeRows → ℤ
-ofOpen r = openOf (r .unit) (r .a) (r .b)
-
-abbrev all : List ThreeRows → ℤ
-all rs = sumOf ofA rs +ℤ sumOf ofB rs +ℤ sumOf ofOpen rs
+abbrev all : List Judged → ℤ
+all js = sumOf ofA js +ℤ sumOf ofB js +ℤ sumOf ofOpen js
 
 six : (a b c A B C : ℤ) → (a +ℤ A) +ℤ (b +ℤ B) +ℤ (c +ℤ C) ≡ (a +ℤ b +ℤ c) +ℤ (A +ℤ B +ℤ C)
 six a b c A B C = simp (+ℤ-assoc, +ℤ-left)
 
-balance-from : (ss : List BookSecond) (k : Book) (h : History) → Follows k h → all (rows k ss) +ℤ sumOf due h ≡ sumOf due (accepted h ss)
-balance-from [] k h f = rw (none k h .1, none k h .2) (+ℤ-idl (sumOf due h))
+balance-from : (ss : List BookSecond) (k : Book) (h : History) → Follows k h → all (accepted h ss) ≡ sumOf ofDue (accepted h ss)
+balance-from [] k h f = rw (none k h .1)
 balance-from (s ∷ ss) k h f =
     either k h f s ss
-    (λ t w. rw (w .rows-is, w .accepted-is)
-    (ap (λ (z : ℤ). z +ℤ sumOf due h)
-    (six (ofA (three h s)) (ofB (three h s)) (ofOpen (three h s)) (sumOf ofA (rows (next k h f s) ss)) (sumOf ofB (rows (next k h f s) ss)) (sumOf ofOpen (rows (next k h f s) ss))
-    ∙ ap (λ (z : ℤ). z +ℤ all (rows (next k h f s) ss)) (second-balance k h f s t))
-    ∙ turned (due s) (all (rows (next k h f s) ss)) (sumOf due h)
-    ∙ balance-from ss (next k h f s) (s ∷ h) (next-follows k h f s t)))
-    (λ t w. rw (w .rows-is, w .accepted-is) (balance-from ss k h f))
-  where
-    turned : (d x y : ℤ) → (d +ℤ x) +ℤ y ≡ x +ℤ (d +ℤ y)
-    turned d x y = +ℤ-assoc d x y ∙ +ℤ-left d x y
+    (λ t w. rw (w .accepted-is)
+    (six (ofA (judgement h s)) (ofB (judgement h s)) (ofOpen (judgement h s)) (sumOf ofA (accepted (s ∷ h) ss)) (sumOf ofB (accepted (s ∷ h) ss)) (sumOf ofOpen (accepted (s ∷ h) ss))
+    ∙ (λ i. second-balance k h f s t i +ℤ balance-from ss (next k h f s) (s ∷ h) (next-follows k h f s t) i)))
+    (λ t w. rw (w .accepted-is) (balance-from ss k h f))
 
 -- ---- every second
 
@@ -196,12 +142,13 @@ number-is : (h : History) (s : BookSecond) → numberIn (answerAt h s) ≡ numbe
 unfolding answerAt numberAt
 number-is h s = number-by (formNumber s) (unitNumber h s) (aNumber h s) (bNumber h s) _ _ _
 
+of-past : (k : Book) (h : History) → Follows k h → OfPast k h
+of-past k h f = record { unit-past = f .unit; a-past = f .a; b-past = f .b }
+
 at-second : (k : Book) (h : History) (f : Follows k h) (s : BookSecond) → AtSecond k h s
 at-second k h f s =
     record {
-      unit-past = f .unit;
-      a-past = f .a;
-      b-past = f .b;
+      past = of-past k h f;
       said = ap says over ∙ says-is h s;
       number = ap numberIn over ∙ number-is h s;
       answer = over;
@@ -222,7 +169,7 @@ at-second k h f s =
     taken e = ⊎-elim (λ t. t) (λ t. absurd (t .number e)) j
 
 each : (ss : List BookSecond) (k : Book) (h : History) → Follows k h → EachSecond k h ss
-each [] k h f = tt
+each [] k h f = of-past k h f
 each (s ∷ ss) k h f = (
   at-second k h f s,
   ⊎-elim
@@ -233,18 +180,18 @@ each (s ∷ ss) k h f = (
 
 -- ---- for every list of book seconds from a fresh book, refused ones included
 
-kept-column : (g : Sums → ℤ) (c : ThreeRows → ℤ) → ((q : Sums) (h : History) (s : BookSecond) → g (sumsWith q (unitRowAt h s) (aRowAt h s) (bRowAt h s) (due s)) ≡ g q +ℤ c (three h s)) → g (fresh .sums) ≡ pos 0
-    → (ss : List BookSecond) → g (after fresh ss .sums) ≡ sumOf c (rows fresh ss)
-kept-column g c grows z ss = kept g c grows ss fresh [] fresh-follows ∙ ap (λ (n : ℤ). n +ℤ sumOf c (rows fresh ss)) z ∙ +ℤ-idl _
+kept-column : (g : Sums → ℤ) (c : Judged → ℤ) → ((q : Sums) (h : History) (s : BookSecond) → g (sumsWith q (unitRowAt h s) (aRowAt h s) (bRowAt h s) (due s)) ≡ g q +ℤ c (judgement h s)) → g (fresh .sums) ≡ pos 0
+    → (ss : List BookSecond) → g (after fresh ss .sums) ≡ sumOf c (accepted [] ss)
+kept-column g c grows z ss = kept g c grows ss fresh [] fresh-follows ∙ ap (λ (n : ℤ). n +ℤ sumOf c (accepted [] ss)) z ∙ +ℤ-idl _
 
 pub claim : (ss : List BookSecond) → Claim ss
 unfolding fresh sumsWith
 claim ss =
     record {
-      balance = sym (+ℤ-idr _) ∙ balance-from ss fresh [] fresh-follows;
+      balance = balance-from ss fresh [] fresh-follows;
       kept-a = kept-column (λ (q : Sums). q .a .0) ofA (λ q h s. refl) refl ss;
       kept-b = kept-column (λ (q : Sums). q .b .0) ofB (λ q h s. refl) refl ss;
       kept-open = kept-column (λ (q : Sums). q .«open» .0) ofOpen (λ q h s. refl) refl ss;
-      kept-due = sym (+ℤ-idr _) ∙ kept-dues ss fresh [] fresh-follows ∙ +ℤ-idl _;
+      kept-due = kept-column (λ (q : Sums). q .due .0) ofDue (λ q h s. refl) refl ss;
       each = each ss fresh [] fresh-follows;
     }

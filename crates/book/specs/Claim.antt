@@ -12,12 +12,15 @@ use Rattle.book.specs.Rows.{valuesOf, soldByA, soldByB, unitPoint, unitR
 use Rattle.book.specs.State.{fresh, stepIn}
 use Rattle.book.specs.Run.{after, sumA, sumB, sumOpen, sumDue}
 
--- second s of the list, at the book k, where h are the seconds accepted before it
-pub record AtSecond (k : Book) (h : History) (s : BookSecond) : Type 0 where
-  -- each plant's state is the one that its own accepted seconds leave
+-- each plant's state is the one that its own accepted seconds leave
+pub record OfPast (k : Book) (h : History) : Type 0 where
   pub unit-past : k .unit ≡ plant.stateOf (pastOf unitBytes h)
   pub a-past : k .a ≡ plant.stateOf (pastOf aBytes h)
   pub b-past : k .b ≡ plant.stateOf (pastOf bBytes h)
+
+-- second s of the list, at the book k, where h are the seconds accepted before it
+pub record AtSecond (k : Book) (h : History) (s : BookSecond) : Type 0 where
+  pub past : OfPast k h
   -- the answer is the one over the past: with no number the rows, each that of the plant's own second over its own past
   pub said : says (stepIn k s .answer) ≡ saidAt h s
   pub number : numberIn (stepIn k s .answer) ≡ numberAt h s
@@ -35,9 +38,9 @@ pub record AtSecond (k : Book) (h : History) (s : BookSecond) : Type 0 where
       RowHolds (pastOf bBytes h) (recordOf (bBytes (s .bytes)))
       (unitPoint (s .bytes) +ℤ valuesOf (soldByB (s .owner)) (unitRowAt h s)) (unitPoint (s .bytes))
 
--- at every second of a list
+-- at every second of a list, and the book that the last one leaves
 abbrev pub EachSecond : Book → History → List BookSecond → Type 0
-EachSecond k h [] = Unit
+EachSecond k h [] = OfPast k h
 EachSecond k h (s ∷ ss) = AtSecond k h s × EachSecond (stepIn k s .book) (grown h s) ss
 
 pub record Claim (ss : List BookSecond) : Type 0 where
