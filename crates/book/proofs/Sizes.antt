@@ -14,13 +14,16 @@ use Rattle.record.specs.declared.Record.{Record}
 use Rattle.row.specs.declared.KindRow.{KindRow}
 use Rattle.row.specs.declared.Row.{Row}
 use Rattle.row.specs.declared.sums.Sums.{Sums}
+use Rattle.row.specs.Fits.{Sums64}
 use Rattle.record.specs.Record.{mostSeconds}
 use Rattle.plant.specs.Refusals.{mostPower}
+use Rattle.plant.specs.Rows.{sharedDifference}
 use Rattle.sharing.specs.Sizes.{SizedRow}
 use Rattle.sharing.proofs.Sizes.{less, more}
 use Rattle.book.specs.Seconds.{difference}
 use Rattle.book.specs.Rows.{valueIf, valuesOf}
-use Rattle.book.specs.State.{mostSummand, mostAtUnit, mostAtPool, mostValues, mostInSecond, kwSeconds, actualsOf, openOf, sumsWith, SumsReady, InRange, Summed}
+use Rattle.book.specs.Sums.{kwSeconds, actualsOf, openOf}
+use Rattle.book.specs.State.{mostSummand, mostAtUnit, mostAtPool, mostValues, mostInSecond, sumsWith, SumsReady, InRange, Summed}
 
 three : (B C : ℕ) (x y z : ℤ) → 3 * B ≤ C → Within B x → Within B y → Within B z → Within C (x +ℤ (y +ℤ z))
 three B C x y z h p q r = more B (2 * B) C x (y +ℤ z) (omega arith) p (more B B (2 * B) y z (omega arith) q r)
@@ -50,6 +53,13 @@ module _ (b : KindBits) (r : Row) (s : SizedRow mostAtUnit r) where
   pub values-small : Within mostValues (valuesOf b r)
   unfolding valuesOf
   values-small = three mostActual mostValues _ _ _ (omega arith) fcr-value afrr-value mfrr-value
+
+-- measured - working point of a record as shared, where sharing adds m and w
+pub shared-within : (M W D : ℕ) (x : Record) (m w : ℤ) → mostPower + M + (mostPower + W) ≤ D → InRange x → Within M m → Within W w → Within D (sharedDifference x m w)
+shared-within M W D x m w h r p q =
+    less (mostPower + M) (mostPower + W) D _ _ h
+    (more mostPower M (mostPower + M) _ m (omega arith) (r .measured) p)
+    (more mostPower W (mostPower + W) _ w (omega arith) (r .working-point) q)
 
 -- ---- what is added to the sums
 
@@ -82,6 +92,12 @@ sum-fits x y p q = search fit
 
 longer : (n m : ℕ) (z : ℤ) → n ≤ m → Within (n * mostInSecond) z → Within (m * mostInSecond) z
 longer n m z h p = record { within = omega (arith, p .within, mul-le-mul-right mostInSecond h) }
+
+pub sums-fit : (n : ℕ) (q : Sums) → n ≤ mostSeconds → SumsReady n q → Sums64 q
+sums-fit n q h r = record { a = fits (r .a); b = fits (r .b); «open» = fits (r .«open»); due = fits (r .due) }
+  where
+    fits : {z : ℤ} → Within (n * mostInSecond) z → SFits w64 z
+    fits {z} w = let l = longer n mostSeconds z h w in search fit
 
 pub sums-longer : (n m : ℕ) (q : Sums) → n ≤ m → SumsReady n q → SumsReady m q
 sums-longer n m q h r =

@@ -8,7 +8,7 @@ use Rattle.plant.specs.declared.PlantState.{PlantState}
 use Rattle.plant.specs.Refusals.{recordNumber}
 use Rattle.plant.specs.Rows.{numberIn}
 use Rattle.plant.specs.State.{stepBy, callStepIn, recordStepIn, stepIn}
-use Rattle.book.specs.Rows.{formNumber}
+use Rattle.book.specs.Refusals.{formNumber}
 use Rattle.book.specs.State as book
 use Rattle.block.specs.Block.{blockNumber}
 use Rattle.block.specs.Check.{weights, checkOf}

@@ -1,16 +1,16 @@
 -- Every list of plant seconds from a fresh state, and every accepted second's row. Assumes nothing.
 use mathlib.Core.Path.{_≡_, refl, sym, ap, _∙_, subst}
 use mathlib.Core.Bool.{Bool, true, false, not, cond}
-use mathlib.Core.List.{List, [], _∷_, _++_}
+use mathlib.Core.List.{List, [], _∷_}
 use Prim.Native.Nat.{ℕ, zero, suc, _*_, _-_, _^_}
 use native.Mathlib.Omega.{arith}
 use lib.Dec.{T, leb, eqb}
-use lib.IntN.{ℤ}
+use lib.IntN.{ℤ, pos}
 use lib.ListN.{length}
 use Rattle.numbers.specs.Bounds.{Within}
 use mir.Syntax.{w32}
 use mir.Val.{SFits, hbits}
-use Rattle.numbers.proofs.Fit.{within-le, fits-by}
+use Rattle.numbers.proofs.Fit.{within-le, within-lit, fits-by}
 use Rattle.power.specs.declared.limits.Limits.{Limits}
 use Rattle.power.specs.Units.{perKw}
 use Rattle.power.specs.Inward.{publishedOf}
@@ -19,6 +19,7 @@ use Rattle.record.specs.declared.Record.{Record}
 use Rattle.record.specs.Record.{size, recordOf}
 use Rattle.row.specs.declared.KindRow.{KindRow}
 use Rattle.row.specs.declared.Row.{Row}
+use Rattle.row.specs.Fits.{Kind32, Row32}
 use Rattle.sharing.specs.Claims.{AllPublished}
 use Rattle.sharing.specs.Sizes as sharing
 use Rattle.sharing.proofs.Rows.{row-shared}
@@ -33,10 +34,11 @@ use Rattle.mfrr.proofs.Claims as mfrr-claims
 use Rattle.plant.specs.declared.PlantAnswer.{PlantAnswer}
 use Rattle.plant.specs.declared.PlantStep.{PlantStep}
 use Rattle.plant.specs.Seconds.{History, fcrSetpoint, fcrPast, afrrSecond, afrrPast, mfrrSecond, mfrrPast}
-use Rattle.plant.specs.Refusals.{mostPower}
-use Rattle.plant.specs.Rows.{kindsAt, recordNumberAt, numberAt, Accepted, rowAt, numberIn, says, saidBy, answerBy, answerAt, sharedDifference, kindFigures, figuresOf, grownBy, grown, stateOf, OverPast}
-use Rattle.plant.specs.State.{mostAdded, Added, stepIn, Ready}
-use Rattle.plant.specs.Run.{PlantSecond, after, answers, accepted, answersOver, kindList, EveryList, AllFit, RowHolds, Claims}
+use Rattle.plant.specs.Refusals.{mostPower, recordNumberAt, numberAt, Accepted, grownBy, grown}
+use Rattle.plant.specs.Rows.{kindsWith, kindsAt, rowAt, numberIn, says, saidBy, answerBy, answerAt, sharedDifference, figuresOf}
+use Rattle.plant.specs.State.{stateOf, OverPast, mostAdded, Added, stepIn, Ready}
+use Rattle.plant.specs.Run.{PlantSecond, stateAfter, answers, accepted, answersOver}
+use Rattle.plant.specs.Claims.{kindList, EveryList, RowHolds, Claims}
 use Rattle.plant.proofs.Past.{Clear, clear, ready, fcr-ranged, afrr-second-fair, afrr-fair, mfrr-accepted, over-bytes}
 
 -- ---- one second
@@ -81,19 +83,19 @@ over-past h a s m w =
 -- ---- a list
 
 module _ where
-  lasts : (ss : List PlantSecond) (h : History) → Accepted h → after (stateOf h) ss ≡ stateOf (accepted h ss)
-  unfolding after accepted
+  lasts : (ss : List PlantSecond) (h : History) → Accepted h → stateAfter (stateOf h) ss ≡ stateOf (accepted h ss)
+  unfolding stateAfter accepted
   lasts [] h a = refl
   lasts (s ∷ ss) h a =
-      let o = over-past h a (s .bytes) (s .measured) (s .working-point) in
+      let o = over-past h a (s .bytes) (s .added-measured) (s .added-point) in
       rw (o .state) (lasts ss (grown h (s .bytes)) (o .stays))
 
   each-answer : (ss : List PlantSecond) (h : History) → Accepted h → answers (stateOf h) ss ≡ answersOver h ss
   unfolding answers answersOver
   each-answer [] h a = refl
   each-answer (s ∷ ss) h a =
-      let o = over-past h a (s .bytes) (s .measured) (s .working-point) in
-      rw (o .answer, o .state) (ap (λ (l : List PlantAnswer). answerAt h (s .bytes) (s .measured) (s .working-point) ∷ l) (each-answer ss (grown h (s .bytes)) (o .stays)))
+      let o = over-past h a (s .bytes) (s .added-measured) (s .added-point) in
+      rw (o .answer, o .state) (ap (λ (l : List PlantAnswer). answerAt h (s .bytes) (s .added-measured) (s .added-point) ∷ l) (each-answer ss (grown h (s .bytes)) (o .stays)))
 
   all-accepted : (ss : List PlantSecond) (h : History) → Accepted h → Accepted (accepted h ss)
   unfolding accepted
@@ -120,27 +122,34 @@ every-list ss =
 
 -- ---- an accepted second's row
 
+-- the largest measured - working point that sharing takes
+abbrev mostDifference : ℕ
+mostDifference = 2 * sharing.mostPower
+
 -- a row that is small enough fits
-figures-fit : (r : Row) → sharing.SizedRow (2 * sharing.mostPower) r → AllFit (figuresOf r)
-figures-fit r h =
-    let o : List ℤ = r .«open» .0 ∷ [] in
-    kind (r .fcr) (h .fcr) (kindFigures (r .afrr) ++ (kindFigures (r .mfrr) ++ o))
-    (kind (r .afrr) (h .afrr) (kindFigures (r .mfrr) ++ o)
-    (kind (r .mfrr) (h .mfrr) o
-    (small _ _ (h .open-within) tt, tt)))
+small-fits : (r : Row) → sharing.SizedRow mostDifference r → Row32 r
+small-fits r h =
+    record { fcr = kind (r .fcr) (h .fcr); afrr = kind (r .afrr) (h .afrr); mfrr = kind (r .mfrr) (h .mfrr); «open» = small _ _ (h .open-within) tt }
   where
     small : (B : ℕ) (z : ℤ) → Within B z → T (leb B (2 ^ hbits w32 - 1)) → SFits w32 z
     small B z h t = fits-by w32 z (within-le B (2 ^ hbits w32 - 1) z h t)
 
-    kind : (k : KindRow) → sharing.SizedKindRow (2 * sharing.mostPower) k → (zs : List ℤ) → AllFit zs → AllFit (kindFigures k ++ zs)
-    kind k h zs f = (small _ _ (h .setpoint) tt, (small _ _ (h .low) tt, (small _ _ (h .high) tt, (small _ _ (h .share) tt, (small _ _ (h .actual) tt, f)))))
+    kind : (k : KindRow) → sharing.SizedKindRow mostDifference k → Kind32 k
+    kind k h =
+        record {
+          setpoint = small _ _ (h .setpoint) tt;
+          low = small _ _ (h .low) tt;
+          high = small _ _ (h .high) tt;
+          share = small _ _ (h .share) tt;
+          actual = small _ _ (h .actual) tt;
+        }
 
 module _ (h : History) (a : Accepted h) (x : Record) (accepted-x : recordNumberAt h x ≡ 0) where
   cleared : Clear h x
   cleared = clear h x accepted-x
 
   all-published : AllPublished (kindList h x)
-  unfolding kindsAt
+  unfolding kindsAt kindsWith
   all-published =
       let p = cleared .passed-1-to-7 in (
         (λ on. fcr-claims.claims .published (fcrPast h) (fcrSetpoint x) (x .«fcr_held») (p .fcr-held .sign)),
@@ -155,7 +164,7 @@ module _ (h : History) (a : Accepted h) (x : Record) (accepted-x : recordNumberA
   band-sized B l t p q = (within-le B sharing.mostLimit _ (lower-within B _ p) t, within-le B sharing.mostLimit _ (upper-within B _ q) t)
 
   kinds-sized : sharing.SizedKinds (kindsAt h x .fcr) (kindsAt h x .afrr) (kindsAt h x .mfrr)
-  unfolding kindsAt
+  unfolding kindsAt kindsWith
   kinds-sized =
       let p = cleared .passed-1-to-7 in
       let s = setpoint-within _ (x .deviation .0) (p .fcr-held .range) in
@@ -171,10 +180,10 @@ module _ (h : History) (a : Accepted h) (x : Record) (accepted-x : recordNumberA
       }
 
   -- measured and working point, as shared
-  difference-sized : (m w : ℤ) → Added m w → Within (2 * sharing.mostPower) (sharedDifference x m w)
+  difference-sized : (m w : ℤ) → Added m w → Within mostDifference (sharedDifference x m w)
   difference-sized m w d =
       let p = cleared .passed-1-to-7 in
-      less sharing.mostPower sharing.mostPower (2 * sharing.mostPower) _ _ (omega arith)
+      less sharing.mostPower sharing.mostPower mostDifference _ _ (omega arith)
       (more mostPower mostAdded sharing.mostPower _ m (omega arith) (p .measured) (d .measured))
       (more mostPower mostPower sharing.mostPower _ w (omega arith) (p .working-point) (d .working-point))
 
@@ -182,15 +191,20 @@ module _ (h : History) (a : Accepted h) (x : Record) (accepted-x : recordNumberA
   unfolding rowAt
   row-holds m w =
       let k = kindsAt h x in
-      let small : Added m w → sharing.SizedRow (2 * sharing.mostPower) (rowAt h x m w) = λ d. sized (2 * sharing.mostPower) (sharedDifference x m w) (k .fcr) (k .afrr) (k .mfrr) (difference-sized m w d) kinds-sized in
       let r = row-shared (sharedDifference x m w) (k .fcr) (k .afrr) (k .mfrr) in
       record {
         balance = r .balance;
         whole = r .whole;
         within = r .within all-published;
-        sized = small;
-        fits = λ d. figures-fit (rowAt h x m w) (small d);
+        sized = λ D d. sized D (sharedDifference x m w) (k .fcr) (k .afrr) (k .mfrr) d kinds-sized;
       }
+
+  pub row-fits : (m w : ℤ) → Added m w → Row32 (rowAt h x m w)
+  row-fits m w d = small-fits _ (row-holds m w .sized mostDifference (difference-sized m w d))
+
+-- nothing is added
+pub none-added : Added (pos 0) (pos 0)
+none-added = record { measured = within-lit mostAdded (pos 0) tt; working-point = within-lit mostPower (pos 0) tt }
 
 -- ---- all of it
 
@@ -200,4 +214,5 @@ claims =
       every-list = every-list;
       over-past = λ h a s m w. over-past h a s m w;
       row-holds = λ h a x e m w. row-holds h a x e m w;
+      fits = λ h a x e. row-fits h a x e (pos 0) (pos 0) none-added;
     }
