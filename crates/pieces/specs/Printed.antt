@@ -4,10 +4,11 @@ use mathlib.Core.List.{List, [], _∷_, _++_, map}
 use Prim.Native.Nat.{ℕ, zero, suc, _+_, _-_, _/_}
 use lib.ListN.{length, take, drop}
 use Rattle.numbers.specs.Rules.{orElse}
-use Rattle.row.specs.declared.sums.Sums.{Sums}
-use Rattle.book.specs.Seconds.{BookSecond, History, dueOf}
-use Rattle.book.specs.Rows.{unitRowAt, aRowAt, bRowAt, numberAt}
-use Rattle.book.specs.State.{fresh, secondOf, sumsWith}
+use Rattle.book.specs.Seconds.{BookSecond, History}
+use Rattle.book.specs.Refusals.{numberAt}
+use Rattle.book.specs.Rows.{unitRowAt, aRowAt, bRowAt}
+use Rattle.book.specs.Sums.{sumsOf}
+use Rattle.book.specs.State.{secondOf}
 use Rattle.block.specs.Places.{blockSize, perBlock}
 use Rattle.block.specs.Header.{headerNumber, ownerOf, secondsOf}
 use Rattle.block.specs.Block.{blockNumber, countOf, secondsFrom}
@@ -70,11 +71,6 @@ judged f h (s ∷ ss) = judgedBy (numberAt h s) f h s (judged f (s ∷ h) ss)
 
 -- ---- the last line
 
--- the four sums over the accepted seconds
-unfoldable pub sumsOf : History → Sums
-sumsOf [] = fresh .sums
-sumsOf (s ∷ h) = sumsWith (sumsOf h) (unitRowAt h s) (aRowAt h s) (bRowAt h s) (dueOf (s .bytes))
-
 -- "then a sum line"; "A refusal prints `refused N at S` instead of the rest, S being seconds accepted so far."
 abbrev pub lastText : ℕ → History → List ℕ
 lastText zero h = sumText (sumsOf h)
@@ -82,19 +78,21 @@ lastText (suc n) h = refusalText (suc n) (length h)
 
 -- ---- the whole
 
--- the book seconds of owner o
+-- the seconds of the blocks s of a book of owner o and t seconds, judged from a fresh book
 abbrev pub bookSeconds : ℕ → List (List ℕ) → List BookSecond
 bookSeconds o ss = map (secondOf o) ss
 
-abbrev pub ended : Judged → ℕ → List ℕ
-ended j n = j .text ++ lastText (orElse (j .number) n) (j .past)
+abbrev pub judgedIn : Form → ℕ → ℕ → List ℕ → Judged
+judgedIn f o t s = judged f [] (bookSeconds o (blocksOf t s .seconds))
 
--- the blocks s after the header, of owner o and t seconds
-unfoldable pub printedAfter : Form → ℕ → ℕ → List ℕ → List ℕ
-printedAfter f o t s = ended (judged f [] (bookSeconds o (blocksOf t s .seconds))) (blocksOf t s .number)
+-- the number that ends the text, 0 where a sum line does: the second's that is refused, else the block's
+abbrev pub numberIn : Form → ℕ → ℕ → List ℕ → ℕ
+numberIn f o t s = orElse (judgedIn f o t s .number) (blocksOf t s .number)
 
 abbrev pub printedBy : ℕ → Form → List ℕ → List ℕ → List ℕ
-printedBy zero f head s = printedAfter f (ownerOf head) (secondsOf head) s
+printedBy zero f head s =
+    judgedIn f (ownerOf head) (secondsOf head) s .text
+    ++ lastText (numberIn f (ownerOf head) (secondsOf head) s) (judgedIn f (ownerOf head) (secondsOf head) s .past)
 printedBy (suc n) f head s = lastText (suc n) []
 
 -- "The program reads a book from standard input and prints a line a second, then a sum line."
