@@ -5,17 +5,14 @@ use Prim.Native.Nat.{ℕ, zero, suc, _≤_}
 use native.Mathlib.Numerals.{add-one}
 use lib.IntN.{ℤ, _+ℤ_, +ℤ-assoc, +ℤ-comm}
 use lib.ListN.{length, length-map}
-use Rattle.record.specs.declared.Record.{Record}
 use Rattle.record.specs.Record.{mostSeconds}
-use Rattle.row.specs.declared.Row.{Row}
 use Rattle.plant.proofs.Past as plant
 use Rattle.book.specs.declared.Book.{Book}
-use Rattle.book.specs.declared.BookAnswer.the-variants.{Rows}
 use Rattle.book.specs.Seconds.{BookSecond, History, unitBytes, pastOf}
 use Rattle.book.specs.Refusals.{numberAt, Accepted, grownBy, grown}
 use Rattle.book.specs.Rows.{unitRowAt, aRowAt, bRowAt, answerAt}
 use Rattle.book.specs.Sums.{sumA, sumB, sumOpen, sumDue, sumsOf}
-use Rattle.book.specs.State.{fresh, stateOf, sumsWith, stepIn, SumsReady}
+use Rattle.book.specs.State.{fresh, stateOf, sumsWith, SumsReady}
 use Rattle.book.specs.Run.{bookAfter, accepted}
 use Rattle.book.specs.Claims.{AtSecond, EachSecond, Balanced, Claims}
 use Rattle.book.proofs.Sizes.{sums-none, sums-more, sums-fit}

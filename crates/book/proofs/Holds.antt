@@ -2,12 +2,9 @@
 use mathlib.Core.Path.{_≡_}
 use mathlib.Core.List.{List}
 use native.Mathlib.Omega.{arith}
-use Prim.Native.Nat.{ℕ, _+_, _≤_}
-use lib.IntN.{ℤ, pos, _+ℤ_}
-use Rattle.numbers.specs.Bounds.{Within}
+use Prim.Native.Nat.{ℕ}
+use lib.IntN.{pos}
 use Rattle.numbers.proofs.Fit.{within-lit}
-use Rattle.record.specs.declared.KindBits.{KindBits}
-use Rattle.record.specs.declared.Record.{Record}
 use Rattle.record.specs.Record.{recordOf}
 use Rattle.row.specs.Fits.{Row32}
 use Rattle.sharing.specs.Sizes.{SizedRow}
@@ -19,9 +16,9 @@ use Rattle.plant.specs.State.{mostAdded, Added}
 use Rattle.plant.specs.Claims.{RowHolds}
 use Rattle.plant.proofs.Past.{clear}
 use Rattle.plant.proofs.Claims.{record-number, row-holds, row-fits, none-added}
-use Rattle.book.specs.Seconds.{BookSecond, History, unitBytes, aBytes, bBytes, pastOf, dueOf}
+use Rattle.book.specs.Seconds.{BookSecond, History, unitBytes, pastOf, dueOf}
 use Rattle.book.specs.Refusals.{Accepted}
-use Rattle.book.specs.Rows.{valuesOf, Pool, poolA, poolB, addedTo, unitPoint, unitRowAt, poolRowAt, aRowAt, bRowAt}
+use Rattle.book.specs.Rows.{Pool, poolA, poolB, addedTo, unitPoint, unitRowAt, poolRowAt, aRowAt, bRowAt}
 use Rattle.book.specs.State.{mostAtUnit, mostAtPool, mostValues, InRange, Summed}
 use Rattle.book.specs.Claims.{PoolHolds, RowsHold}
 use Rattle.book.proofs.Sizes.{shared-within, values-small, due-small}

@@ -6,3 +6,4 @@ pub mod Claims
 pub mod Plants
 pub mod Form
 pub mod Listed
+pub mod Values

@@ -6,3 +6,4 @@ pub mod State
 pub mod Run
 pub mod Claims
 pub mod List
+pub mod Values

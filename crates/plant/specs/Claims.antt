@@ -4,7 +4,7 @@ use Prim.Native.Nat.{ℕ, _≤_}
 use mathlib.Core.Path.{_≡_}
 use mathlib.Core.Logic.{_↔_}
 use mathlib.Core.Bool.{true}
-use mathlib.Core.List.{List, [], _∷_}
+use mathlib.Core.List.{List, []}
 use lib.IntN.{ℤ, pos, natAbs, _+ℤ_}
 use Rattle.numbers.specs.Bounds.{Within}
 use Rattle.record.specs.declared.Record.{Record}

@@ -4,7 +4,6 @@ use lib.IntN.{pos, _+ℤ_}
 use denote.Ref.{now}
 use Rattle.numbers.specs.Bounds.{Within}
 use Rattle.record.specs.declared.KindBits.{KindBits}
-use Rattle.row.specs.declared.Row.{Row}
 use Rattle.sharing.specs.Sizes.{SizedRow}
 use Rattle.plant.specs.Refusals.{mostPower}
 use Rattle.book.specs.Rows.{valuesOf, others, poolA, poolB}
