@@ -1,7 +1,7 @@
 // The unmarked values of FCR and aFRR in document 01, "Values to hold", by stepping their states.
 ghost use mathlib.Core.Path.{_≡_};
-ghost use Rattle.fcr.specs.Claims.{fallTolerance};
-ghost use Rattle.kinds_values.specs.Values.{lowerAt};
+ghost use Rattle.fcr.specs.Values.{fallTolerance};
+ghost use Rattle.afrr.specs.Values.{lowerAt};
 use afrr::AfrrState;
 use afrr::Second;
 use fcr::FcrState;

@@ -15,7 +15,7 @@ use Rattle.fcr.specs.declared.FcrState.{FcrState}
 use Rattle.fcr.specs.declared.FcrStep.{FcrStep}
 use Rattle.fcr.specs.Band.{bandAt}
 use Rattle.fcr.specs.State.{mostLimit, stateOf, Ready, Fair, stepIn}
-use Rattle.fcr.specs.Claims.{fallTolerance}
+use Rattle.fcr.specs.Values.{fallTolerance}
 use Rattle.fcr.proofs.Claims.{claims}
 use Rattle.kinds_values.proofs.fall_tolerance.Statement.{statement}
 use Rattle.kinds_values.proofs.fall_tolerance.Tie as tie
