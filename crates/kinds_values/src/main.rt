@@ -1,8 +1,10 @@
 // The unmarked values of FCR and aFRR in document 01, "Values to hold", by stepping their states.
 ghost use mathlib.Core.Path.{_≡_};
-ghost use Rattle.fcr.specs.Claims.{fallTolerance};
-ghost use Rattle.kinds_values.specs.Values.{lowerAt};
+ghost use Rattle.fcr.specs.Values.{fallTolerance};
+ghost use Rattle.afrr.specs.Values.{lowerAt};
+use afrr::AfrrState;
 use afrr::Second;
+use fcr::FcrState;
 use libc::STDOUT_FILENO;
 use power::Kw;
 
@@ -12,10 +14,10 @@ fn fall_tolerance(age: u64) -> Kw
 {
     let held = Kw(400);
     let s = Kw(-100);
-    let mut step = fcr::step(fcr::new(), s, held);
+    let mut step = FcrState::new().step(s, held);
     for a in 0..age {
         let state = step.state;
-        step = fcr::step(state, s, held);
+        step = state.step(s, held);
     }
     let band = step.band;
     let high = band.high;
@@ -31,10 +33,10 @@ fn lower_limit(second: u64) -> Kw
         up: Kw(10000),
         down: Kw(0),
     };
-    let mut step = afrr::step(afrr::new(), x);
+    let mut step = AfrrState::new().step(x);
     for t in 0..second {
         let state = step.state;
-        step = afrr::step(state, x);
+        step = state.step(x);
     }
     let band = step.band;
     band.low

@@ -170,8 +170,8 @@ module _ (h : History) (a : Accepted h) (x : Record) (accepted-x : recordNumberA
       let s = setpoint-within _ (x .deviation .0) (p .fcr-held .range) in
       let fair : fcr.Fair (fcrSetpoint x) (x .«fcr_held») = record { setpoint-range = s; held-range = p .fcr-held .range; held-sign = p .fcr-held .sign } in
       let all : afrr.AllFair (afrrPast (x ∷ h)) = (afrr-second-fair (length h) x p, afrr-fair h a) in
-      let f = band-sized fcr.limitMost _ tt (fcr-claims.claims .lower-small (fcrPast h) (fcrSetpoint x) (x .«fcr_held») (fcr-ranged h a) fair) (fcr-claims.claims .upper-small (fcrPast h) (fcrSetpoint x) (x .«fcr_held») (fcr-ranged h a) fair) in
-      let b = band-sized afrr.limitMost _ tt (afrr-claims.claims .lower-small (afrrPast (x ∷ h)) all) (afrr-claims.claims .upper-small (afrrPast (x ∷ h)) all) in
+      let f = band-sized fcr.mostLimit _ tt (fcr-claims.claims .lower-small (fcrPast h) (fcrSetpoint x) (x .«fcr_held») (fcr-ranged h a) fair) (fcr-claims.claims .upper-small (fcrPast h) (fcrSetpoint x) (x .«fcr_held») (fcr-ranged h a) fair) in
+      let b = band-sized afrr.mostLimit _ tt (afrr-claims.claims .lower-small (afrrPast (x ∷ h)) all) (afrr-claims.claims .upper-small (afrrPast (x ∷ h)) all) in
       let g = mfrr-claims.claims .range (mfrrPast h) (mfrrSecond x) (mfrr-accepted (x ∷ h) (also-accepted h x accepted-x a)) in
       record {
         fcr = record { setpoint = s; low = f .0; high = f .1 };

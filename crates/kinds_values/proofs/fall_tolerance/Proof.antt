@@ -14,8 +14,8 @@ use Rattle.power.specs.Units.{kw, mostReserve}
 use Rattle.fcr.specs.declared.FcrState.{FcrState}
 use Rattle.fcr.specs.declared.FcrStep.{FcrStep}
 use Rattle.fcr.specs.Band.{bandAt}
-use Rattle.fcr.specs.State.{limitMost, stateOf, Ready, Fair, stepIn}
-use Rattle.fcr.specs.Claims.{fallTolerance}
+use Rattle.fcr.specs.State.{mostLimit, stateOf, Ready, Fair, stepIn}
+use Rattle.fcr.specs.Values.{fallTolerance}
 use Rattle.fcr.proofs.Claims.{claims}
 use Rattle.kinds_values.proofs.fall_tolerance.Statement.{statement}
 use Rattle.kinds_values.proofs.fall_tolerance.Tie as tie
@@ -37,7 +37,7 @@ fair : Fair s held
 fair = record { setpoint-range = within-lit mostReserve (s .0) tt; held-range = within-lit mostReserve (held .0) tt; held-sign = record { le = tt } }
 
 abbrev Inv-loop : tie.InvT-loop
-Inv-loop age held₀ s₀ step₀ a₀ step a = (a ≤ age) × Ready (step .state) × Within limitMost (step .band .high .0) × (step ≡ answer (replicate a s))
+Inv-loop age held₀ s₀ step₀ a₀ step a = (a ≤ age) × Ready (step .state) × Within mostLimit (step .band .high .0) × (step ≡ answer (replicate a s))
 
 abbrev μ-loop : tie.MeasureT-loop
 μ-loop age held₀ s₀ step₀ a₀ step a = age - a

@@ -14,7 +14,7 @@ use Rattle.afrr.specs.declared.AfrrStep.{AfrrStep}
 use Rattle.afrr.specs.Band.{bandAt}
 use Rattle.afrr.specs.State.{stateOf, Ready, Fair, stepIn}
 use Rattle.afrr.proofs.Claims.{claims}
-use Rattle.kinds_values.specs.Values.{tenThousand, lowerAt}
+use Rattle.afrr.specs.Values.{tenThousand, lowerAt}
 use Rattle.kinds_values.proofs.lower_limit.Statement.{statement}
 use Rattle.kinds_values.proofs.lower_limit.Tie as tie
 
