@@ -167,7 +167,7 @@ module _ (h : History) (a : Accepted h) (x : Record) (accepted-x : recordNumberA
       record {
         fcr = record { setpoint = s; low = f .0; high = f .1 };
         afrr = record { setpoint = p .afrr-setpoint; low = b .0; high = b .1 };
-        mfrr = record { setpoint = g .setpoint-range; low = within-le mfrr.limitMost sharing.mostLimit _ (g .small .0) tt; high = within-le mfrr.limitMost sharing.mostLimit _ (g .small .1) tt };
+        mfrr = record { setpoint = g .setpoint-range; low = within-le mfrr.mostLimit sharing.mostLimit _ (g .small .0) tt; high = within-le mfrr.mostLimit sharing.mostLimit _ (g .small .1) tt };
       }
 
   -- measured and working point, as shared
