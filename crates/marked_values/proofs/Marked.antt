@@ -14,10 +14,6 @@ marked =
       held-333-at-minus-50 = fcr.values .held-333-at-minus-50;
       fall-at-age-15 = fcr.values .fall-at-age-15;
       fall-at-age-16 = fcr.values .fall-at-age-16;
-      call-at-1 = mfrr.values .at-1;
-      call-at-900 = mfrr.values .at-900;
-      call-at-901 = mfrr.values .at-901;
-      call-at-1800 = mfrr.values .at-1800;
-      tolerances-5-5 = sharing.values .tie;
-      tolerances-1-1-1 = sharing.values .past;
+      mfrr = mfrr.values .marked;
+      sharing = sharing.values .marked;
     }

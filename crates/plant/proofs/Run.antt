@@ -121,7 +121,7 @@ every-list ss =
 -- ---- an accepted second's row
 
 -- a row that is small enough fits
-figures-fit : (r : Row) → sharing.SizedRow (2 * sharing.mostPower) r → AllFit (figuresOf r)
+figures-fit : (r : Row) → sharing.SizedRow (2 * sharing.mostShared) r → AllFit (figuresOf r)
 figures-fit r h =
     let o : List ℤ = r .«open» .0 ∷ [] in
     kind (r .fcr) (h .fcr) (kindFigures (r .afrr) ++ (kindFigures (r .mfrr) ++ o))
@@ -132,7 +132,7 @@ figures-fit r h =
     small : (B : ℕ) (z : ℤ) → Within B z → T (leb B (2 ^ hbits w32 - 1)) → SFits w32 z
     small B z h t = fits-by w32 z (within-le B (2 ^ hbits w32 - 1) z h t)
 
-    kind : (k : KindRow) → sharing.SizedKindRow (2 * sharing.mostPower) k → (zs : List ℤ) → AllFit zs → AllFit (kindFigures k ++ zs)
+    kind : (k : KindRow) → sharing.SizedKindRow (2 * sharing.mostShared) k → (zs : List ℤ) → AllFit zs → AllFit (kindFigures k ++ zs)
     kind k h zs f = (small _ _ (h .setpoint) tt, (small _ _ (h .low) tt, (small _ _ (h .high) tt, (small _ _ (h .share) tt, (small _ _ (h .actual) tt, f)))))
 
 module _ (h : History) (a : Accepted h) (x : Record) (accepted-x : recordNumberAt h x ≡ 0) where
@@ -171,18 +171,18 @@ module _ (h : History) (a : Accepted h) (x : Record) (accepted-x : recordNumberA
       }
 
   -- measured and working point, as shared
-  difference-sized : (m w : ℤ) → Added m w → Within (2 * sharing.mostPower) (sharedDifference x m w)
+  difference-sized : (m w : ℤ) → Added m w → Within (2 * sharing.mostShared) (sharedDifference x m w)
   difference-sized m w d =
       let p = cleared .passed-1-to-7 in
-      less sharing.mostPower sharing.mostPower (2 * sharing.mostPower) _ _ (omega arith)
-      (more mostPower mostAdded sharing.mostPower _ m (omega arith) (p .measured) (d .measured))
-      (more mostPower mostPower sharing.mostPower _ w (omega arith) (p .working-point) (d .working-point))
+      less sharing.mostShared sharing.mostShared (2 * sharing.mostShared) _ _ (omega arith)
+      (more mostPower mostAdded sharing.mostShared _ m (omega arith) (p .measured) (d .measured))
+      (more mostPower mostPower sharing.mostShared _ w (omega arith) (p .working-point) (d .working-point))
 
   pub row-holds : (m w : ℤ) → RowHolds h x m w
   unfolding rowAt
   row-holds m w =
       let k = kindsAt h x in
-      let small : Added m w → sharing.SizedRow (2 * sharing.mostPower) (rowAt h x m w) = λ d. sized (2 * sharing.mostPower) (sharedDifference x m w) (k .fcr) (k .afrr) (k .mfrr) (difference-sized m w d) kinds-sized in
+      let small : Added m w → sharing.SizedRow (2 * sharing.mostShared) (rowAt h x m w) = λ d. sized (2 * sharing.mostShared) (sharedDifference x m w) (k .fcr) (k .afrr) (k .mfrr) (difference-sized m w d) kinds-sized in
       let r = row-shared (sharedDifference x m w) (k .fcr) (k .afrr) (k .mfrr) in
       record {
         balance = r .balance;
