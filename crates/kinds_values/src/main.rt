@@ -44,13 +44,10 @@ fn lower_limit(second: u64) -> Kw
 
 // The number of kW, with a minus sign where it is negative.
 fn print_kw(k: Kw) {
-    let v = k.0 as i64;
-    if 0 <= v {
-        io::print_decimal(STDOUT_FILENO, v as u64);
-    } else {
+    if k.is_below(Kw(0)) {
         io::write_all(STDOUT_FILENO, b"-");
-        io::print_decimal(STDOUT_FILENO, -v as u64);
     }
+    io::print_decimal(STDOUT_FILENO, k.magnitude());
 }
 
 // The text, the second that it speaks of, and the power.

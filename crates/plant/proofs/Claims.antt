@@ -124,7 +124,7 @@ every-list ss =
 
 -- the largest measured - working point that sharing takes
 abbrev mostDifference : ℕ
-mostDifference = 2 * sharing.mostPower
+mostDifference = 2 * sharing.mostShared
 
 -- a row that is small enough fits
 small-fits : (r : Row) → sharing.SizedRow mostDifference r → Row32 r
@@ -176,16 +176,16 @@ module _ (h : History) (a : Accepted h) (x : Record) (accepted-x : recordNumberA
       record {
         fcr = record { setpoint = s; low = f .0; high = f .1 };
         afrr = record { setpoint = p .afrr-setpoint; low = b .0; high = b .1 };
-        mfrr = record { setpoint = g .setpoint-range; low = within-le mfrr.limitMost sharing.mostLimit _ (g .small .0) tt; high = within-le mfrr.limitMost sharing.mostLimit _ (g .small .1) tt };
+        mfrr = record { setpoint = g .setpoint-range; low = within-le mfrr.mostLimit sharing.mostLimit _ (g .small .0) tt; high = within-le mfrr.mostLimit sharing.mostLimit _ (g .small .1) tt };
       }
 
   -- measured and working point, as shared
   difference-sized : (m w : ℤ) → Added m w → Within mostDifference (sharedDifference x m w)
   difference-sized m w d =
       let p = cleared .passed-1-to-7 in
-      less sharing.mostPower sharing.mostPower mostDifference _ _ (omega arith)
-      (more mostPower mostAdded sharing.mostPower _ m (omega arith) (p .measured) (d .measured))
-      (more mostPower mostPower sharing.mostPower _ w (omega arith) (p .working-point) (d .working-point))
+      less sharing.mostShared sharing.mostShared mostDifference _ _ (omega arith)
+      (more mostPower mostAdded sharing.mostShared _ m (omega arith) (p .measured) (d .measured))
+      (more mostPower mostPower sharing.mostShared _ w (omega arith) (p .working-point) (d .working-point))
 
   pub row-holds : (m w : ℤ) → RowHolds h x m w
   unfolding rowAt

@@ -34,12 +34,12 @@ in-parts t x calls s n =
 
 -- ---- at any state the number of a second is the first of them
 
-call-first : (s : MfrrState) (t : ℕ) (y : mfrr-signal.Second) → first (callRulesIn s t y) ≡ mfrr.refusalIn s t y
+call-first : (s : MfrrState) (t : ℕ) (y : mfrr-signal.MfrrSecond) → first (callRulesIn s t y) ≡ mfrr.refusalIn s t y
 unfolding mfrr.refusalIn mfrr.numberOf callRulesIn
 call-first s t mfrr-signal.quiet = refl
 call-first s t (mfrr-signal.call e D) = refl
 
-call-numbered : (s : MfrrState) (t : ℕ) (y : mfrr-signal.Second) → numbered (callRulesIn s t y) ≡ true
+call-numbered : (s : MfrrState) (t : ℕ) (y : mfrr-signal.MfrrSecond) → numbered (callRulesIn s t y) ≡ true
 unfolding callRulesIn mfrr-refusals.callRules
 call-numbered s t mfrr-signal.quiet = refl
 call-numbered s t (mfrr-signal.call e D) = refl

@@ -2,7 +2,8 @@
 use mathlib.Core.Path.{refl}
 use Rattle.record.specs.Record.{bitsOf}
 use Rattle.fcr.specs.Setpoint.{setpointOf}
-use Rattle.plant.specs.Refusals.{outside, heldOut, deviationOut, powerOut, setpointOut, callFilled, callOut, recordNumber, offMoves, offNumber, numberAt}
+use Rattle.numbers.specs.Bounds.{outside}
+use Rattle.plant.specs.Refusals.{heldOut, deviationOut, powerOut, setpointOut, callFilled, callOut, recordNumber, offMoves, offNumber, numberAt}
 use Rattle.plant.specs.Rows.{kindsWith}
 use Rattle.plant.specs.Values.{Values}
 

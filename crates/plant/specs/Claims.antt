@@ -12,7 +12,8 @@ use Rattle.row.specs.Fits.{Row32}
 use Rattle.row.specs.Row.{kindsOf, AllInBand, sumActuals}
 use Rattle.sharing.specs.declared.kinds.Kind.{Kind}
 use Rattle.sharing.specs.Sizes.{SizedRow}
-use Rattle.sharing.specs.Rows.{someOn, errorOf, totalOf, three}
+use Rattle.sharing.specs.Shares.{someOn}
+use Rattle.sharing.specs.Rows.{kindsOn, errorOf, totalOf, three}
 use Rattle.plant.specs.Seconds.{History}
 use Rattle.plant.specs.Refusals.{recordNumberAt, Accepted}
 use Rattle.plant.specs.Rows.{kindsAt, sharedDifference, rowAt}
@@ -42,8 +43,8 @@ pub record RowHolds (h : History) (x : Record) (m w : ℤ) : Type 0 where
   pub balance : sumActuals (kindsOf (rowAt h x m w)) +ℤ rowAt h x m w .«open» .0 ≡ sharedDifference x m w
   -- wherever a kind is on, the actual values do so by themselves, and "all kinds lie within their bands exactly when the error lies within the
   -- summed bands"
-  pub whole : someOn (kindList h x) ≡ true → sumActuals (kindsOf (rowAt h x m w)) ≡ sharedDifference x m w
-  pub within : someOn (kindList h x) ≡ true → AllInBand (kindsOf (rowAt h x m w)) ↔ (natAbs (errorAt h x m w) ≤ totalAt h x m w)
+  pub whole : someOn (kindsOn (kindList h x)) ≡ true → sumActuals (kindsOf (rowAt h x m w)) ≡ sharedDifference x m w
+  pub within : someOn (kindsOn (kindList h x)) ≡ true → AllInBand (kindsOf (rowAt h x m w)) ↔ (natAbs (errorAt h x m w) ≤ totalAt h x m w)
   -- where measured - working point, as shared, is within D, no figure is above D and four times the largest reserve
   pub sized : (D : ℕ) → Within D (sharedDifference x m w) → SizedRow D (rowAt h x m w)
 

@@ -61,9 +61,9 @@ pub record OverPast (h : History) (s : List ℕ) (m w : ℤ) (r : PlantStep) : T
 -- ---- any state: its number
 
 -- 8 to 10, by the phase and the leftovers that the state holds
-unfoldable pub callRulesIn : MfrrState → ℕ → mfrr-signal.Second → List Rule
+unfoldable pub callRulesIn : MfrrState → ℕ → mfrr-signal.MfrrSecond → List Rule
 callRulesIn s t mfrr-signal.quiet = []
-callRulesIn s t (mfrr-signal.call e D) = callRules (mfrr.restingIn (s .phase)) (length (mfrr.held (s .leftovers))) t e D
+callRulesIn s t (mfrr-signal.call e D) = callRules (mfrr.restingIn (s .phase)) (length (mfrr.countingIn (s .leftovers))) t e D
 
 -- mFRR's setpoint with the second's call taken in
 abbrev pub mfrrSetpointIn : PlantState → Record → Kw
