@@ -1,5 +1,5 @@
 -- A second's figures and their sums are small enough. Assumes nothing.
-use mathlib.Core.Bool.{Bool}
+use mathlib.Core.Bool.{Bool, true, false}
 use Prim.Native.Nat.{ℕ, _+_, _*_, _≤_, zero-le}
 use native.Mathlib.Nat.{mul-le-mul-right}
 use native.Mathlib.Omega.{arith}
@@ -7,7 +7,7 @@ use lib.IntN.{ℤ, pos, _+ℤ_, +ℤ-idr}
 use Rattle.numbers.specs.Bounds.{Within}
 use mir.Syntax.{w32, w64}
 use mir.Val.{SFits}
-use Rattle.numbers.proofs.Fit.{fit, within-le, within-lit, within-cond}
+use Rattle.numbers.proofs.Fit.{fit, within-le}
 use Rattle.power.specs.Units.{mostReserve}
 use Rattle.record.specs.declared.KindBits.{KindBits}
 use Rattle.record.specs.declared.Record.{Record}
@@ -38,7 +38,8 @@ abbrev pub mostActual : ℕ
 mostActual = mostAtUnit + 4 * mostReserve
 
 value : (t : Bool) (k : KindRow) → Within mostActual (k .actual .0) → Within mostActual (valueIf t k)
-value t k h = within-cond mostActual t _ _ h (within-lit mostActual _ tt)
+value true k h = h
+value false k h = search fit
 
 module _ (b : KindBits) (r : Row) (s : SizedRow mostAtUnit r) where
   pub fcr-value : Within mostActual (valueIf (b .fcr) (r .fcr))
