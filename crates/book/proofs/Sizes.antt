@@ -73,11 +73,8 @@ pub open-small : (u a b : Row) → SizedRow mostAtUnit u → SizedRow mostAtPool
 open-small u a b p q r =
     three mostAtPool mostInSecond _ _ _ (omega arith) (within-le mostAtUnit mostAtPool _ (p .open-within) tt) (q .open-within) (r .open-within)
 
-difference-small : (x : Record) → InRange x → Within mostAtUnit (difference x)
+pub difference-small : (x : Record) → InRange x → Within mostAtUnit (difference x)
 difference-small x r = less mostPower mostPower mostAtUnit _ _ (omega arith) (r .measured) (r .working-point)
-
-pub due-small : (u a b : Record) → InRange u → InRange a → InRange b → Within mostInSecond (difference u +ℤ (difference a +ℤ difference b))
-due-small u a b p q r = three mostAtUnit mostInSecond _ _ _ (omega arith) (difference-small u p) (difference-small a q) (difference-small b r)
 
 -- ---- the sums
 
