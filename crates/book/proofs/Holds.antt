@@ -4,7 +4,7 @@ use mathlib.Core.List.{List}
 use native.Mathlib.Omega.{arith}
 use Prim.Native.Nat.{ℕ}
 use lib.IntN.{pos}
-use Rattle.numbers.proofs.Fit.{within-lit}
+use Rattle.numbers.proofs.Fit.{fit, within-lit}
 use Rattle.record.specs.Record.{recordOf}
 use Rattle.row.specs.Fits.{Row32}
 use Rattle.sharing.specs.Sizes.{SizedRow}
@@ -21,7 +21,7 @@ use Rattle.book.specs.Refusals.{Accepted}
 use Rattle.book.specs.Rows.{Pool, poolA, poolB, addedTo, unitPoint, unitRowAt, poolRowAt, aRowAt, bRowAt}
 use Rattle.book.specs.State.{mostAtUnit, mostAtPool, mostValues, InRange, Summed}
 use Rattle.book.specs.Claims.{PoolHolds, RowsHold}
-use Rattle.book.proofs.Sizes.{shared-within, values-small, due-small}
+use Rattle.book.proofs.Sizes.{shared-within, values-small, difference-small}
 use Rattle.book.proofs.Past.{Cleared, unit-accepted, a-accepted, b-accepted}
 
 in-range : (h : plant-seconds.History) (s : List ℕ) → plant.numberAt h s ≡ 0 → InRange (recordOf s)
@@ -90,5 +90,9 @@ module _ (h : History) (s : BookSecond) (accepted : Accepted h) (c : Cleared h s
         unit-sized = unit-sized;
         a-sized = pool-sized poolA (a-accepted h accepted) (c .a);
         b-sized = pool-sized poolB (b-accepted h accepted) (c .b);
-        due-small = due-small _ _ _ unit-range (in-range _ _ (c .a)) (in-range _ _ (c .b));
+        due-small =
+            let u = difference-small _ unit-range in
+            let a = difference-small _ (in-range _ _ (c .a)) in
+            let b = difference-small _ (in-range _ _ (c .b)) in
+            search fit;
       }

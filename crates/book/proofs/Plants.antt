@@ -5,7 +5,7 @@ use Prim.Native.Nat.{ℕ, _+_, _≤_}
 use native.Mathlib.Omega.{arith}
 use lib.IntN.{ℤ, pos, _+ℤ_}
 use Rattle.numbers.specs.Bounds.{Within}
-use Rattle.numbers.proofs.Fit.{within-lit}
+use Rattle.numbers.proofs.Fit.{fit, within-lit}
 use Rattle.record.specs.declared.Record.{Record}
 use Rattle.record.specs.Record.{mostSeconds, recordOf}
 use Rattle.row.specs.declared.Row.{Row}
@@ -26,7 +26,7 @@ use Rattle.book.specs.declared.Plant.the-variants.{U, A, B}
 use Rattle.book.specs.Seconds.{dueFrom, dueOf}
 use Rattle.book.specs.Rows.{valuesOf, unitPoint, Pool, poolA, poolB}
 use Rattle.book.specs.State.{secondOf, unitIn, poolIn, aIn, bIn, sumsWith, refusedBy, plantsIn, mostAtUnit, mostAtPool, Ready, SumsReady, InRange, Summed, PartsOf, PlantsStepped}
-use Rattle.book.proofs.Sizes.{shared-within, due-small, sums-longer, sums-more}
+use Rattle.book.proofs.Sizes.{shared-within, difference-small, sums-longer, sums-more}
 
 -- ---- a plant's second
 
@@ -159,7 +159,11 @@ module _ (q : Asked) (g : UnitGiven q) where
               unit-sized = unit-sized;
               a-sized = pool-sized a;
               b-sized = pool-sized b;
-              due-small = rw ed (due-small _ _ _ (ranges .0) (ranges .1) (ranges .2));
+              due-small =
+                  let x = difference-small _ (ranges .0) in
+                  let y = difference-small _ (ranges .1) in
+                  let z = difference-small _ (ranges .2) in
+                  rw ed (search fit);
             }
 
         pub sums-ready : SumsReady mostSeconds (q .book .sums)

@@ -1,5 +1,5 @@
 -- A second's figures and their sums are small enough. Assumes nothing.
-use mathlib.Core.Bool.{Bool}
+use mathlib.Core.Bool.{Bool, true, false}
 use Prim.Native.Nat.{ℕ, _+_, _*_, _≤_, zero-le}
 use native.Mathlib.Nat.{mul-le-mul-right}
 use native.Mathlib.Omega.{arith}
@@ -7,7 +7,7 @@ use lib.IntN.{ℤ, pos, _+ℤ_, +ℤ-idr}
 use Rattle.numbers.specs.Bounds.{Within}
 use mir.Syntax.{w32, w64}
 use mir.Val.{SFits}
-use Rattle.numbers.proofs.Fit.{fit, within-le, within-lit, within-cond}
+use Rattle.numbers.proofs.Fit.{fit, within-le}
 use Rattle.power.specs.Units.{mostReserve}
 use Rattle.record.specs.declared.KindBits.{KindBits}
 use Rattle.record.specs.declared.Record.{Record}
@@ -38,7 +38,8 @@ abbrev pub mostActual : ℕ
 mostActual = mostAtUnit + 4 * mostReserve
 
 value : (t : Bool) (k : KindRow) → Within mostActual (k .actual .0) → Within mostActual (valueIf t k)
-value t k h = within-cond mostActual t _ _ h (within-lit mostActual _ tt)
+value true k h = h
+value false k h = search fit
 
 module _ (b : KindBits) (r : Row) (s : SizedRow mostAtUnit r) where
   pub fcr-value : Within mostActual (valueIf (b .fcr) (r .fcr))
@@ -72,11 +73,8 @@ pub open-small : (u a b : Row) → SizedRow mostAtUnit u → SizedRow mostAtPool
 open-small u a b p q r =
     three mostAtPool mostInSecond _ _ _ (omega arith) (within-le mostAtUnit mostAtPool _ (p .open-within) tt) (q .open-within) (r .open-within)
 
-difference-small : (x : Record) → InRange x → Within mostAtUnit (difference x)
+pub difference-small : (x : Record) → InRange x → Within mostAtUnit (difference x)
 difference-small x r = less mostPower mostPower mostAtUnit _ _ (omega arith) (r .measured) (r .working-point)
-
-pub due-small : (u a b : Record) → InRange u → InRange a → InRange b → Within mostInSecond (difference u +ℤ (difference a +ℤ difference b))
-due-small u a b p q r = three mostAtUnit mostInSecond _ _ _ (omega arith) (difference-small u p) (difference-small a q) (difference-small b r)
 
 -- ---- the sums
 
