@@ -1,13 +1,13 @@
--- `operations::block_number` meets its contract: the reader answers as its definition says, to the bytes that `blank_block` gives. Assumes nothing.
+-- `check_operations::block_number` meets its contract: the reader answers as its definition says, to the bytes that `blank_block` gives. Assumes nothing.
 use mathlib.Core.Path.{ap, _∙_}
 use mathlib.Core.List.{List}
 use Prim.Native.Nat.{ℕ}
 use Rattle.block.specs.Places.{perBlock}
 use Rattle.block.specs.Block.{blockOf}
-use Rattle.operations.specs.Numbers.{saidNumber}
+use Rattle.check_operations.specs.Numbers.{saidNumber}
 use borrow.Author.Needs.{needs}
-use Rattle.operations.proofs.block_number.Statement.{statement}
-use Rattle.operations.proofs.block_number.Tie as tie
+use Rattle.check_operations.proofs.block_number.Statement.{statement}
+use Rattle.check_operations.proofs.block_number.Tie as tie
 
 blank-block-requires : tie.Need-blank-block-requires
 blank-block-requires c κs = search needs

@@ -12,8 +12,8 @@ use Rattle.book.specs.Refusals.{formNumber}
 use Rattle.book.specs.State as book
 use Rattle.block.specs.Block.{blockNumber}
 use Rattle.block.specs.Check.{weights, checkOf}
-use Rattle.operations.specs.Numbers.{plantNumber, blank}
-use Rattle.operations.specs.Answers.{Answers}
+use Rattle.check_operations.specs.Numbers.{plantNumber, blank}
+use Rattle.check_operations.specs.Answers.{Answers}
 
 abbrev blankRecord : Record
 blankRecord = recordOf (blank size)

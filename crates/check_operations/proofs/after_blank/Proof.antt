@@ -1,10 +1,10 @@
--- `operations::after_blank` meets its contract. The invariant: the state is one that the plant second takes. Assumes nothing.
+-- `check_operations::after_blank` meets its contract. The invariant: the state is one that the plant second takes. Assumes nothing.
 use Prim.Native.Nat.{_≤_, _-_}
 use native.Mathlib.Omega.{arith}
 use borrow.Author.Needs.{needs}
 use Rattle.plant.specs.State.{Ready}
-use Rattle.operations.proofs.after_blank.Statement.{statement}
-use Rattle.operations.proofs.after_blank.Tie as tie
+use Rattle.check_operations.proofs.after_blank.Statement.{statement}
+use Rattle.check_operations.proofs.after_blank.Tie as tie
 
 abbrev Inv-loop : tie.InvT-loop
 Inv-loop seconds blank state₀ t₀ state t = (t ≤ seconds) × Ready state

@@ -1,10 +1,10 @@
--- `operations::plant_number` meets its contract: the plant second answers as its definition says. Assumes nothing.
+-- `check_operations::plant_number` meets its contract: the plant second answers as its definition says. Assumes nothing.
 use mathlib.Core.Path.{ap, _∙_}
 use Rattle.plant.specs.declared.PlantStep.{PlantStep}
 use Rattle.plant.specs.Rows.{numberIn}
 use borrow.Author.Needs.{needs}
-use Rattle.operations.proofs.plant_number.Statement.{statement}
-use Rattle.operations.proofs.plant_number.Tie as tie
+use Rattle.check_operations.proofs.plant_number.Statement.{statement}
+use Rattle.check_operations.proofs.plant_number.Tie as tie
 
 second-requires : tie.Need-second-requires
 second-requires c κs = search needs

@@ -4,7 +4,7 @@ use mathlib.Core.Path.{_≡_}
 use Rattle.row.specs.declared.sums.Sums.{Sums}
 use Rattle.record.specs.Record.{size, bookSize, mostSeconds}
 use Rattle.plant.specs.declared.PlantState.{PlantState}
-use Rattle.operations.specs.Numbers.{plantNumber, bookNumber, lineNumber, blank, blankNumber}
+use Rattle.check_operations.specs.Numbers.{plantNumber, bookNumber, lineNumber, blank, blankNumber}
 
 pub record Answers : Type 0 where
   -- "1 already 90,000 seconds", whatever else the state holds

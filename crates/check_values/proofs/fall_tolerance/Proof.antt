@@ -1,4 +1,4 @@
--- `kinds_values::fall_tolerance` meets its contract. The invariant: the last step answered as the definitions say after that many seconds. Assumes nothing.
+-- `check_values::fall_tolerance` meets its contract. The invariant: the last step answered as the definitions say after that many seconds. Assumes nothing.
 use mathlib.Core.Path.{_≡_, ap, _∙_}
 use mathlib.Core.List.{List, [], _∷_}
 use Prim.Native.Nat.{suc, _≤_, _-_}
@@ -17,8 +17,8 @@ use Rattle.fcr.specs.Band.{bandAt}
 use Rattle.fcr.specs.State.{mostLimit, stateOf, Ready, Fair, stepIn}
 use Rattle.fcr.specs.Values.{fallTolerance}
 use Rattle.fcr.proofs.Claims.{claims}
-use Rattle.kinds_values.proofs.fall_tolerance.Statement.{statement}
-use Rattle.kinds_values.proofs.fall_tolerance.Tie as tie
+use Rattle.check_values.proofs.fall_tolerance.Statement.{statement}
+use Rattle.check_values.proofs.fall_tolerance.Tie as tie
 
 abbrev s : Kw
 s = kw (negℤ (pos 100))

@@ -1,4 +1,4 @@
--- `kinds_values::lower_limit` meets its contract. The invariant: the last step answered as the definitions say after that many seconds. Assumes nothing.
+-- `check_values::lower_limit` meets its contract. The invariant: the last step answered as the definitions say after that many seconds. Assumes nothing.
 use mathlib.Core.Path.{_≡_, ap, _∙_}
 use mathlib.Core.List.{List, [], _∷_}
 use Prim.Native.Nat.{suc, _≤_, _-_}
@@ -15,8 +15,8 @@ use Rattle.afrr.specs.Band.{bandAt}
 use Rattle.afrr.specs.State.{stateOf, Ready, Fair, stepIn}
 use Rattle.afrr.proofs.Claims.{claims}
 use Rattle.afrr.specs.Values.{tenThousand, lowerAt}
-use Rattle.kinds_values.proofs.lower_limit.Statement.{statement}
-use Rattle.kinds_values.proofs.lower_limit.Tie as tie
+use Rattle.check_values.proofs.lower_limit.Statement.{statement}
+use Rattle.check_values.proofs.lower_limit.Tie as tie
 
 abbrev x : Second
 x = tenThousand

@@ -1,9 +1,9 @@
--- `operations::line_number` meets its contract: the writer answers as its definition says. Assumes nothing.
+-- `check_operations::line_number` meets its contract: the writer answers as its definition says. Assumes nothing.
 use mathlib.Core.Path.{ap, _∙_}
-use Rattle.operations.specs.Numbers.{lineNumberIn}
+use Rattle.check_operations.specs.Numbers.{lineNumberIn}
 use borrow.Author.Needs.{needs}
-use Rattle.operations.proofs.line_number.Statement.{statement}
-use Rattle.operations.proofs.line_number.Tie as tie
+use Rattle.check_operations.proofs.line_number.Statement.{statement}
+use Rattle.check_operations.proofs.line_number.Tie as tie
 
 sum-line-requires : tie.Need-sum-line-requires
 sum-line-requires c κs = search needs

@@ -14,7 +14,7 @@ ghost use Prim.Native.Nat.{_<_};
 ghost use Rattle.plant.specs.State.{Ready};
 ghost use Rattle.book.specs.Rows.{numberIn};
 ghost use Rattle.block.specs.Block.{blockSays};
-ghost use Rattle.operations.specs.Numbers.{plantNumber, bookNumber, lineNumberIn, lineNumber, saidNumber, blankBlock, blankNumber};
+ghost use Rattle.check_operations.specs.Numbers.{plantNumber, bookNumber, lineNumberIn, lineNumber, saidNumber, blankBlock, blankNumber};
 
 // The seconds of the book that a block is read for: it has one block.
 const SECONDS: u32 = block::PER_BLOCK as u32;
