@@ -1,4 +1,4 @@
-// The unmarked values of FCR and aFRR in document 01, "Values to hold", by stepping their states.
+// The values to hold of FCR and aFRR in document 01, "Values to hold", by stepping their states.
 ghost use mathlib.Core.Path.{_≡_};
 ghost use Rattle.fcr.specs.Values.{fallTolerance};
 ghost use Rattle.afrr.specs.Values.{lowerAt};

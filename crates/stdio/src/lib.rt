@@ -1,5 +1,5 @@
 // The loop that reads a book from standard input, has it taken, and sends the text: the one part of a program that no contract can hold to what
-// is read and written (docs/READING.md). Each function makes at most one call of C's, or one that does.
+// is read and written (docs/READING.md). That it goes on from where the book stood is in its contracts (specs/Turns.antt).
 use libc::STDERR_FILENO;
 use libc::STDIN_FILENO;
 use libc::STDOUT_FILENO;
@@ -8,6 +8,7 @@ use report::Form;
 ghost use Prim.Native.Nat.{_≤_};
 ghost use lib.ListN.{length};
 ghost use Rattle.pieces.specs.Pieces.{ReadingReady, pieceSize, pieceRoom};
+ghost use Rattle.stdio.specs.Turns.{After, AfterSome};
 
 // No book is longer, with the byte that is looked for after its last block; each turn reads at least one byte.
 const MOST_TURNS: usize = block::SIZE * (1 + record::MOST_SECONDS as usize) + 1;
@@ -51,10 +52,10 @@ fn sent(out: &[u8], end: usize) -> Next
     Next::Stop
 }
 
-// Takes what was read, the first `count` bytes, and sends its text.
+// Takes what was read, and sends its text.
 fn pass_on(reading: Reading, bytes: &[u8], out: &mut [u8]) -> Turn
     requires { ⌜ ReadingReady reading × (length (now bytes) ≤ pieceSize) × (pieceRoom ≤ length (now out)) ⌝ }
-    ensures { λ r. ⌜ ReadingReady (r .reading) ⌝ }
+    ensures { λ r. ⌜ After reading (now (bytes .entry)) (r .reading) ⌝ }
 {
     let taken = reading.take(bytes, out);
     let reading = taken.reading;
@@ -67,7 +68,7 @@ fn pass_on(reading: Reading, bytes: &[u8], out: &mut [u8]) -> Turn
 // One turn: reads, takes, sends. An answer below 0 is a failure, 0 the end of the input.
 fn one_turn(reading: Reading, bytes: &mut [u8], out: &mut [u8]) -> Turn
     requires { ⌜ ReadingReady reading × (pieceSize ≤ length (now bytes)) × (length (now bytes) ≤ pieceSize) × (pieceRoom ≤ length (now out)) ⌝ }
-    ensures { λ r. ⌜ ReadingReady (r .reading) ⌝ }
+    ensures { λ r. ⌜ AfterSome reading (r .reading) ⌝ }
 {
     let wanted = reading.wanted();
     if wanted == 0 {
@@ -97,7 +98,7 @@ fn one_turn(reading: Reading, bytes: &mut [u8], out: &mut [u8]) -> Turn
 // Turn after turn, until the last line is due or something failed.
 fn turns(reading: Reading, bytes: &mut [u8], out: &mut [u8]) -> Turn
     requires { ⌜ ReadingReady reading × (pieceSize ≤ length (now bytes)) × (length (now bytes) ≤ pieceSize) × (pieceRoom ≤ length (now out)) ⌝ }
-    ensures { λ r. ⌜ ReadingReady (r .reading) ⌝ }
+    ensures { λ r. ⌜ AfterSome reading (r .reading) ⌝ }
 {
     let mut last = Turn {
         next: Next::Read,

@@ -1,20 +1,23 @@
--- `stdio::turns` is safe. The invariant: the reading is ready, and both buffers are as long as they were. Assumes nothing.
-use mathlib.Core.Path.{_≡_}
+-- `stdio::turns` goes on from where the book stood. The invariant: some bytes lead to the reading, and both buffers are as long as they were.
+-- Assumes nothing.
+use mathlib.Core.Path.{_≡_, refl}
 use lib.ListN.{length}
+use native.Mathlib.Omega.{arith}
 use borrow.Author.Needs.{needs}
-use Rattle.pieces.specs.Pieces.{ReadingReady}
+use Rattle.stdio.specs.Turns.{AfterSome}
+use Rattle.stdio.proofs.Joined.{none, both}
 use Rattle.stdio.proofs.turns.Statement.{statement}
 use Rattle.stdio.proofs.turns.Tie as tie
 
 abbrev Inv-loop : tie.InvT-loop
 Inv-loop bytes₀ out₀ last₀ left₀ bytes out last left =
-    ReadingReady (last .reading) × (length bytes ≡ length bytes₀) × (length out ≡ length out₀)
+    AfterSome (last₀ .reading) (last .reading) × (length bytes ≡ length bytes₀) × (length out ≡ length out₀)
 
 abbrev μ-loop : tie.MeasureT-loop
 μ-loop bytes₀ out₀ last₀ left₀ bytes out last left = left
 
 loop-holds : tie.Need-loop-holds Inv-loop μ-loop
-loop-holds c = search needs
+loop-holds c = (none (c .before .before .pre .0), refl, refl)
 
 enum-told : tie.Need-enum-told Inv-loop μ-loop
 enum-told c = search needs
@@ -29,7 +32,10 @@ returns : tie.Need-returns Inv-loop μ-loop
 returns c = search needs
 
 one-turn-requires : tie.Need-one-turn-requires Inv-loop μ-loop
-one-turn-requires c κs = search needs
+one-turn-requires c κs =
+    let inv = c .before .before .before .before .before .loop .inv in
+    let start = c .before .before .before .before .before .before .before .before in
+    (inv .0 .after .ready, omega (arith, inv .1, start .pre .1), omega (arith, inv .1, start .pre .2), omega (arith, inv .2, start .pre .3))
 
 sub-left : tie.Need-sub-left Inv-loop μ-loop
 sub-left c = search needs
@@ -38,7 +44,7 @@ loop-less : tie.Need-loop-less Inv-loop μ-loop
 loop-less c = search needs
 
 loop-again : tie.Need-loop-again Inv-loop μ-loop
-loop-again c = search needs
+loop-again c = (both (c .before .before .before .before .before .before .before .before .before .before .loop .inv .0) (c .before .before .before .before .one-turn .ensures), search needs, search needs)
 
 same-length-3 : tie.Need-same-length-3 Inv-loop μ-loop
 same-length-3 c = search needs
