@@ -15,7 +15,7 @@ use Rattle.pieces.specs.declared.standing.Advance.{Advance}
 use Rattle.pieces.specs.declared.reading.Reading.{Reading}
 use Rattle.pieces.specs.declared.reading.Taken.{Taken}
 use Rattle.pieces.specs.Pieces.{Went, unmoved, beyondBy, isDue, standingIn, onward, bytesIn, pieceSize, pieceRoom, StandingReady, Advances, partOf, ReadingReady, Takes, Fitting, Chunked}
-use Rattle.pieces.proofs.Bytes.{cut, none-left, beyond-is, beyond, filling, filled-up}
+use Rattle.pieces.proofs.Bytes.{cut, none-left, beyond-is, beyond, filling, filled-up, whole-block}
 use Rattle.pieces.proofs.Steps.{beyond-text}
 
 -- ---- the bytes of one block
@@ -41,6 +41,25 @@ past-last r {s} {b} {used} {st} fit room d is ready =
             ready = record { standing = ready; size = fit .ready .size; short = omega arith };
           });
       paced = omega arith;
+    }
+
+-- a whole block
+pub in-place : (r : Reading) {s b o : List ℕ} {used : ℕ} {a : Advance} → Fitting r s → length s ≡ blockSize → Advances blockRoom b o used a (standingIn (r .standing) s) → Chunked r s b o used (record { reading = record { standing = a .standing; part = r .part; filled = 0 }; used = a .used })
+in-place r {s} fit size f =
+    let none-there : r .filled ≡ 0 = omega (arith, fit .fits) in
+    let empty : partOf r ≡ [] = ap (λ (n : ℕ). take n (r .part)) none-there in
+    let is : bytesIn (r .standing) (partOf r) s ≡ standingIn (r .standing) s =
+    ap (λ (p : List ℕ). bytesIn (r .standing) p s) empty ∙ whole-block (r .standing) s size in
+    record {
+      takes =
+          rw is
+          (record {
+            standing = f .standing;
+            part = sym (none-left (r .standing) s);
+            text = f .text;
+            ready = record { standing = f .ready; size = fit .ready .size; short = omega arith };
+          });
+      paced = omega (arith, f .text .most);
     }
 
 -- one is: the bytes are put after those of it that were there

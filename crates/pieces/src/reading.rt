@@ -1,4 +1,4 @@
-// A book taken in pieces of any size: the bytes of a block are gathered in an array until it is whole.
+// A book taken in pieces of any size: whole blocks are run where they lie, and the bytes of one that comes in parts are gathered in an array.
 use crate::standing::Standing;
 use report::Form;
 use report::Verdict;
@@ -109,11 +109,32 @@ impl Reading {
         }
     }
 
+    // A whole block, run where it lies: no byte of it was there before.
+    fn whole(self, used: usize, bytes: &[u8], out: &mut [u8]) -> Taken
+        requires { ⌜ Fitting self (now bytes) × (length (now bytes) ≡ blockSize) × (used + blockRoom ≤ length (now out)) ⌝ }
+        ensures { λ r. ⌜ Chunked self (now (bytes .entry)) (now (out .entry)) (now (out .exit)) used r ⌝ }
+    {
+        let part = self.part;
+        let run = self.standing.block(used, bytes, out);
+        let standing = run.standing;
+        Taken {
+            reading: Reading {
+                standing,
+                part,
+                filled: 0,
+            },
+            used: run.used,
+        }
+    }
+
     // Bytes of the block next in turn, or ones that none is due for.
     fn chunk(self, used: usize, bytes: &[u8], out: &mut [u8]) -> Taken
         requires { ⌜ Fitting self (now bytes) × (used + blockRoom ≤ length (now out)) ⌝ }
         ensures { λ r. ⌜ Chunked self (now (bytes .entry)) (now (out .entry)) (now (out .exit)) used r ⌝ }
     {
+        if bytes.len() == block::SIZE {
+            return self.whole(used, bytes, out);
+        }
         let standing = self.standing;
         if standing.is_due() {
             return self.fill(used, bytes, out);
