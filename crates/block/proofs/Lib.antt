@@ -2,4 +2,4 @@ pub mod Tests
 pub mod Answers
 pub mod Parts
 pub mod Taken
-pub mod Laid
+pub mod Claims

@@ -2,17 +2,18 @@
 use mathlib.Core.Path.{_≡_, refl, sym, ap, _∙_}
 use mathlib.Core.Bool.{Bool, true, false, _&&_}
 use mathlib.Core.List.{List, [], _∷_, _++_}
-use Prim.Native.Nat.{ℕ, zero, suc, _+_, _*_, _-_, _/_, _%_, _≤_, _<_}
+use Prim.Native.Nat.{ℕ, zero, suc, _+_, _*_, _-_, _≤_, _<_}
 use native.Mathlib.Omega.{arith}
 use lib.ListN.{length, getD, length-take, length-drop, length-append}
 use lib.Dec.{eqb}
 use lib.Seq.{drop-cons, take-add, drop-drop, take-all, take-at, getD-append-add}
 use borrow.Author.Tests.{eq-eqb, ne-eqb, eqb-true}
-use Rattle.codec.specs.Little.{u32At}
+use Rattle.codec.specs.Little.{u32At, le4, Bytes}
+use Rattle.codec.proofs.Little.{le4-value, four-bytes}
 use Rattle.block.specs.Places.{blockSize, checkAt}
-use Rattle.block.specs.Bytes.{part, allZero, zeros, le4}
+use Rattle.block.specs.Bytes.{part, allZero, zeros}
 use Rattle.block.specs.Check.{weights, checkOf}
-use Rattle.block.specs.Layout.{closed, Bytes}
+use Rattle.block.specs.Layout.{closed}
 use Rattle.numbers.proofs.Rules.{both-true}
 
 pub part-none : (s : List ℕ) (i end : ℕ) → end ≤ i → part s i end ≡ []
@@ -76,23 +77,6 @@ pub zero-part : (s : List ℕ) (a c : ℕ) → c ≤ length s → allZero (part 
 zero-part s a c h e = zeros-of (part s a c) e ∙ ap zeros (part-length s a c h)
 
 -- ---- four bytes and their number
-
-pub le4-value : (n : ℕ) → u32At (le4 n) 0 ≡ n
-le4-value n = omega arith
-
-low : (x y : ℕ) → x < 256 → x ≡ (x + y * 256) % 256
-low x y h = omega arith
-
-four-bytes : (a b c d : ℕ) → a < 256 → b < 256 → c < 256 → a ∷ b ∷ c ∷ d ∷ [] ≡ le4 (a + b * 256 + c * 65536 + d * 16777216)
-four-bytes a b c d h k l =
-    let n = a + b * 256 + c * 65536 + d * 16777216 in
-    let p : a ≡ n % 256 = omega arith in
-    let u : b + (c + d * 256) * 256 ≡ n / 256 = omega arith in
-    let v : c + d * 256 ≡ n / 65536 = omega arith in
-    let q : b ≡ n / 256 % 256 = low b (c + d * 256) k ∙ ap (λ (m : ℕ). m % 256) u in
-    let r : c ≡ n / 65536 % 256 = low c d l ∙ ap (λ (m : ℕ). m % 256) v in
-    let t : d ≡ n / 16777216 = omega arith in
-    cc
 
 pub four-of : (s : List ℕ) (i : ℕ) → i + 4 ≤ length s → part s i (i + 4) ≡ getD s i 0 ∷ getD s (i + 1) 0 ∷ getD s (i + 2) 0 ∷ getD s (i + 3) 0 ∷ []
 four-of s i h =

@@ -8,12 +8,12 @@ use lib.ListN.{length, getD}
 use borrow.Author.Tests.{eqb-false, ltb-false, not-false}
 use Rattle.codec.specs.Little.{u16At, u32At}
 use Rattle.record.specs.Record.{mostSeconds, allKinds}
-use Rattle.block.specs.Places.{blockSize, checkAt, bodyAt, headerEnd, countEnd, perBlock, version}
+use Rattle.block.specs.Places.{blockSize, checkAt, nameAt, versionAt, version, spareAt, headerEnd, numberAt, countEnd, perBlock, bodyAt, secondAt}
 use Rattle.block.specs.Bytes.{part, allZero}
 use Rattle.block.specs.Check.{checkOf}
 use Rattle.block.specs.Said.{values}
 use Rattle.block.specs.Header.{name, ownerOf, secondsOf, headerRules, headerNumber, headerOf}
-use Rattle.block.specs.Block.{countOf, dueIn, secondAt, blockRules, blockNumber, blockOf}
+use Rattle.block.specs.Block.{countOf, dueIn, blockRules, blockNumber, blockOf}
 use Rattle.block.proofs.Tests.{unequal, not-less, agrees}
 use Rattle.numbers.proofs.Rules.{none, no-number}
 use Rattle.block.proofs.Answers.{accepted, same, positive}
@@ -21,12 +21,12 @@ use Rattle.block.proofs.Answers.{accepted, same, positive}
 pub record TakenHeader (s : List ℕ) : Type 0 where
   pub len : length s ≡ blockSize
   pub check : u32At s checkAt ≡ checkOf s
-  pub first-bytes : u32At s 0 ≡ u32At name 0
-  pub version-is : u16At s 4 ≡ version
+  pub first-bytes : u32At s nameAt ≡ u32At name 0
+  pub version-is : u16At s versionAt ≡ version
   pub owners : ownerOf s ≤ allKinds
   pub some : 0 < secondsOf s
   pub most : secondsOf s ≤ mostSeconds
-  pub seven : getD s 7 0 ≡ 0
+  pub spare-byte : getD s spareAt 0 ≡ 0
   pub spare : allZero (part s headerEnd checkAt) ≡ true
 
 pub taken-header : (s : List ℕ) → headerNumber s ≡ 0 → TakenHeader s
@@ -41,7 +41,7 @@ taken-header s e =
       owners = ltb-false _ _ (r .1 .1 .1 .1 .0);
       some = positive _ (eqb-false _ _ (r .1 .1 .1 .1 .1 .0));
       most = ltb-false _ _ (r .1 .1 .1 .1 .1 .1 .0);
-      seven = same _ _ (r .1 .1 .1 .1 .1 .1 .1 .0);
+      spare-byte = same _ _ (r .1 .1 .1 .1 .1 .1 .1 .0);
       spare = not-false _ (r .1 .1 .1 .1 .1 .1 .1 .1 .0);
     }
 
@@ -49,12 +49,12 @@ pub header-zero : (s : List ℕ) → TakenHeader s → headerNumber s ≡ 0
 unfolding headerNumber
 header-zero s t =
     let some : secondsOf s ≡ 0 → ⊥ = λ e. omega (arith, t .some) in
-    no-number (headerRules s) (agrees refl refl (t .len), (agrees refl refl (t .check), (agrees refl refl (t .first-bytes), (agrees refl refl (t .version-is), (not-less refl refl (t .owners), (unequal refl refl some, (not-less refl refl (t .most), (agrees refl refl (t .seven), (ap not (t .spare), tt)))))))))
+    no-number (headerRules s) (agrees refl refl (t .len), (agrees refl refl (t .check), (agrees refl refl (t .first-bytes), (agrees refl refl (t .version-is), (not-less refl refl (t .owners), (unequal refl refl some, (not-less refl refl (t .most), (agrees refl refl (t .spare-byte), (ap not (t .spare), tt)))))))))
 
 pub record TakenBlock (s : List ℕ) (seconds n : ℕ) : Type 0 where
   pub len : length s ≡ blockSize
   pub check : u32At s checkAt ≡ checkOf s
-  pub number : u32At s 0 ≡ n
+  pub number : u32At s numberAt ≡ n
   pub from-one : 0 < n
   pub some : 0 < dueIn seconds n
   pub count : countOf s ≡ dueIn seconds n

@@ -1,5 +1,5 @@
--- Parts of a block's bytes, and numbers as bytes. Bytes as numbers are `codec`'s (its specs/Little.antt).
-use Prim.Native.Nat.{ℕ, _-_, _/_, _%_}
+-- Parts of a block's bytes.
+use Prim.Native.Nat.{ℕ, _-_}
 use mathlib.Core.Bool.{Bool, true, _&&_}
 use mathlib.Core.List.{List, [], _∷_}
 use lib.ListN.{take, drop, replicate}
@@ -15,7 +15,3 @@ allZero (b ∷ s) = eqb b 0 && allZero s
 
 abbrev pub zeros : ℕ → List ℕ
 zeros n = replicate n 0
-
--- a number below 2 ^ 32 as four bytes, the lowest first
-abbrev pub le4 : ℕ → List ℕ
-le4 n = n % 256 ∷ n / 256 % 256 ∷ n / 65536 % 256 ∷ n / 16777216 ∷ []

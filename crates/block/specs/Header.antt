@@ -9,7 +9,7 @@ use Rattle.block.specs.declared.Header.{Header}
 use Rattle.block.specs.declared.Header.the-variants.{Fields, Refused}
 use Rattle.codec.specs.Little.{u16At, u32At}
 use Rattle.record.specs.Record.{mostSeconds, allKinds}
-use Rattle.block.specs.Places.{blockSize, checkAt, headerEnd, version}
+use Rattle.block.specs.Places.{blockSize, checkAt, nameAt, versionAt, version, ownerAt, spareAt, bookSecondsAt, headerEnd}
 use Rattle.block.specs.Bytes.{part, allZero}
 use Rattle.block.specs.Check.{checkOf}
 use Rattle.numbers.specs.Rules.{Rule, refuse, first, differ}
@@ -20,22 +20,22 @@ abbrev pub name : List ℕ
 name = code "R" ∷ code "L" ∷ code "I" ∷ code "W" ∷ []
 
 abbrev pub ownerOf : List ℕ → ℕ
-ownerOf s = getD s 6 0
+ownerOf s = getD s ownerAt 0
 
 abbrev pub secondsOf : List ℕ → ℕ
-secondsOf s = u32At s 8
+secondsOf s = u32At s bookSecondsAt
 
 -- "12 length not 512; 13 check; 14 first bytes; 15 version; 16 owner above 7; 17 seconds 0 or above 90,000; 18 a spare byte not 0"
 abbrev pub headerRules : List ℕ → List Rule
 headerRules s =
     refuse 12 (differ (length s) blockSize)
     ∷ refuse 13 (differ (u32At s checkAt) (checkOf s))
-    ∷ refuse 14 (differ (u32At s 0) (u32At name 0))
-    ∷ refuse 15 (differ (u16At s 4) version)
+    ∷ refuse 14 (differ (u32At s nameAt) (u32At name 0))
+    ∷ refuse 15 (differ (u16At s versionAt) version)
     ∷ refuse 16 (ltb allKinds (ownerOf s))
     ∷ refuse 17 (eqb (secondsOf s) 0)
     ∷ refuse 17 (ltb mostSeconds (secondsOf s))
-    ∷ refuse 18 (differ (getD s 7 0) 0)
+    ∷ refuse 18 (differ (getD s spareAt 0) 0)
     ∷ refuse 18 (not (allZero (part s headerEnd checkAt)))
     ∷ []
 

@@ -1,15 +1,15 @@
--- The blocks of a book byte for byte (01, "Blocks and text"), and the claim that just these are accepted. The proof is `exactly` of proofs/Laid.antt.
+-- The blocks of a book byte for byte (01, "Blocks and text"): what a header and a later block are when nothing is refused.
 use mathlib.Core.Path.{_≡_}
-use Prim.Native.Nat.{ℕ, _+_, _*_, _-_, _≤_, _<_}
+use Prim.Native.Nat.{ℕ, _+_, _*_, _-_, _/_, _≤_, _<_}
 use mathlib.Core.List.{List, [], _∷_, _++_}
-use lib.ListN.{length, getD, take, drop}
+use lib.ListN.{length}
+use Rattle.codec.specs.Little.{le4}
 use Rattle.record.specs.Record.{mostSeconds, allKinds}
-use Rattle.block.specs.Places.{checkAt, bodyAt, headerEnd, countEnd, secondSize, version}
-use Rattle.block.specs.Bytes.{zeros, le4}
+use Rattle.block.specs.Places.{checkAt, headerEnd, version, countEnd, bodyAt, secondSize, secondAt}
+use Rattle.block.specs.Bytes.{part, zeros}
 use Rattle.block.specs.Check.{checkOf}
-use Rattle.block.specs.Said.{values}
-use Rattle.block.specs.Header.{name, headerOf}
-use Rattle.block.specs.Block.{dueIn, secondAt, blockOf, secondOf}
+use Rattle.block.specs.Header.{name}
+use Rattle.block.specs.Block.{dueIn}
 
 -- bytes 0 to 507 and their check
 abbrev pub closed : List ℕ → List ℕ
@@ -25,26 +25,21 @@ pub record HeaderLayout (s : List ℕ) (owner seconds : ℕ) : Type 0 where
   pub most : seconds ≤ mostSeconds
   pub bytes : s ≡ headerBytes owner seconds
 
+-- how many seconds these bytes are
+abbrev pub countIn : List ℕ → ℕ
+countIn body = length body / secondSize
+
 -- "0-3 block number from 1, 4 seconds in it .., from 16 on 108 bytes a second"
-unfoldable pub blockBytes : ℕ → ℕ → List ℕ → List ℕ
-blockBytes n k body = closed (le4 n ++ ((k ∷ zeros (bodyAt - countEnd)) ++ (body ++ zeros (checkAt - secondAt k))))
+unfoldable pub blockBytes : ℕ → List ℕ → List ℕ
+blockBytes n body = closed (le4 n ++ ((countIn body ∷ zeros (bodyAt - countEnd)) ++ (body ++ zeros (checkAt - (bodyAt + length body)))))
+
+-- the bytes of the k seconds of a block
+abbrev pub bodyOf : List ℕ → ℕ → List ℕ
+bodyOf s k = part s bodyAt (secondAt k)
 
 pub record BlockLayout (s : List ℕ) (seconds n k : ℕ) : Type 0 where
-  pub body : List ℕ
-  pub size : length body ≡ secondSize * k
   pub due : k ≡ dueIn seconds n
   pub some : 0 < k
   pub number : 0 < n
-  pub bytes : s ≡ blockBytes n k body
-
--- every element of s is a byte, as in a slice of u8
-abbrev pub Bytes : List ℕ → Type 0
-Bytes s = (i : ℕ) → getD s i 0 < 256
-
--- A block is accepted exactly when it has the layout, and its seconds are the parts of 108 bytes of the layout's body.
-pub record Exactly : Type 0 where
-  pub header-taken : (s : List ℕ) (owner seconds : ℕ) → Bytes s → headerOf s ≡ values (owner ∷ seconds ∷ []) → HeaderLayout s owner seconds
-  pub header-given : (s : List ℕ) (owner seconds : ℕ) → HeaderLayout s owner seconds → headerOf s ≡ values (owner ∷ seconds ∷ [])
-  pub block-taken : (s : List ℕ) (seconds n k : ℕ) → Bytes s → blockOf s seconds n ≡ values (k ∷ []) → BlockLayout s seconds n k
-  pub block-given : (s : List ℕ) (seconds n k : ℕ) → BlockLayout s seconds n k → blockOf s seconds n ≡ values (k ∷ [])
-  pub block-seconds : (s : List ℕ) (seconds n k : ℕ) (l : BlockLayout s seconds n k) (i : ℕ) → i < k → secondOf s i ≡ take secondSize (drop (secondSize * i) (l .body))
+  pub size : length (bodyOf s k) ≡ secondSize * k
+  pub bytes : s ≡ blockBytes n (bodyOf s k)

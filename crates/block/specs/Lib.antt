@@ -5,3 +5,4 @@ pub mod Said
 pub mod Header
 pub mod Block
 pub mod Layout
+pub mod Claims

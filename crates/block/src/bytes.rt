@@ -7,12 +7,6 @@ ghost use Rattle.block.specs.Bytes.{part, allZero};
 ghost use Rattle.block.specs.Check.{checkOf};
 use crate::CHECK_AT;
 
-fn wide(x: u8) -> u32
-    ensures { λ r. ⌜ (r ≡ x) × (r < 256) ⌝ }
-{
-    x as u32
-}
-
 pub(crate) fn size(x: u8) -> usize
     ensures { λ r. ⌜ r ≡ x ⌝ }
 {
@@ -24,7 +18,7 @@ fn weighed(i: usize, b: u8) -> u32
     requires { ⌜ i < checkAt ⌝ }
     ensures { λ r. ⌜ (r ≡ (i + 1) * b) × (r ≤ checkAt * 255) ⌝ }
 {
-    (i as u32 + 1) * wide(b)
+    (i as u32 + 1) * codec::wide(b)
 }
 
 pub(crate) fn check_of(s: &[u8]) -> u32

@@ -7,14 +7,21 @@ use crate::SIZE;
 use crate::bytes::check_of;
 use crate::bytes::is_zero;
 
+const NAME_AT: usize = 0;
+
+const VERSION_AT: usize = 4;
+
 const VERSION: u32 = 1;
 
 const OWNER_AT: usize = 6;
 
-const SECONDS_AT: usize = 8;
+// The spare byte before the seconds in the book.
+const SPARE_AT: usize = 7;
+
+const BOOK_SECONDS_AT: usize = 8;
 
 // The first byte past the fields.
-const END: usize = 12;
+const END: usize = BOOK_SECONDS_AT + 4;
 
 // The number of the first rule that the header breaks, or 0.
 fn header_number(s: &[u8]) -> u8
@@ -26,23 +33,23 @@ fn header_number(s: &[u8]) -> u8
     if codec::read_u32(s, CHECK_AT) != check_of(s) {
         return 13;
     }
-    if codec::read_u32(s, 0) != codec::read_u32(b"RLIW", 0) {
+    if codec::read_u32(s, NAME_AT) != codec::read_u32(b"RLIW", 0) {
         return 14;
     }
-    if codec::read_u16(s, 4) != VERSION {
+    if codec::read_u16(s, VERSION_AT) != VERSION {
         return 15;
     }
     if s[OWNER_AT] > record::ALL_KINDS {
         return 16;
     }
-    let seconds = codec::read_u32(s, SECONDS_AT);
+    let seconds = codec::read_u32(s, BOOK_SECONDS_AT);
     if seconds == 0 {
         return 17;
     }
     if seconds > record::MOST_SECONDS {
         return 17;
     }
-    if s[7] != 0 {
+    if s[SPARE_AT] != 0 {
         return 18;
     }
     if !is_zero(s, END, CHECK_AT) {
@@ -60,6 +67,6 @@ pub fn read_header(s: &[u8]) -> Header
     }
     Header::Fields {
         owner: s[OWNER_AT],
-        seconds: codec::read_u32(s, SECONDS_AT),
+        seconds: codec::read_u32(s, BOOK_SECONDS_AT),
     }
 }

@@ -2,8 +2,8 @@
 ghost use mathlib.Core.Path.{_≡_};
 ghost use Prim.Native.Nat.{_≤_, _<_};
 ghost use lib.ListN.{length};
-ghost use Rattle.block.specs.Places.{blockSize, perBlock};
-ghost use Rattle.block.specs.Block.{dueIn, blockNumber, blockOf, blockSays, secondAt, Second};
+ghost use Rattle.block.specs.Places.{blockSize, perBlock, secondAt};
+ghost use Rattle.block.specs.Block.{dueIn, blockNumber, blockOf, blockSays, SecondIn};
 use crate::Block;
 use crate::CHECK_AT;
 use crate::SIZE;
@@ -11,7 +11,11 @@ use crate::bytes::check_of;
 use crate::bytes::is_zero;
 use crate::bytes::size;
 
+const NUMBER_AT: usize = 0;
+
 const COUNT_AT: usize = 4;
+
+const COUNT_END: usize = COUNT_AT + 1;
 
 // The first second's place, and the bytes of a second.
 const BODY_AT: usize = 16;
@@ -56,7 +60,7 @@ fn block_number(s: &[u8], seconds: u32, n: u32) -> u8
     if codec::read_u32(s, CHECK_AT) != check_of(s) {
         return 13;
     }
-    if codec::read_u32(s, 0) != n {
+    if codec::read_u32(s, NUMBER_AT) != n {
         return 19;
     }
     if n == 0 {
@@ -69,7 +73,7 @@ fn block_number(s: &[u8], seconds: u32, n: u32) -> u8
     if size(s[COUNT_AT]) != count {
         return 20;
     }
-    if !is_zero(s, COUNT_AT + 1, BODY_AT) {
+    if !is_zero(s, COUNT_END, BODY_AT) {
         return 18;
     }
     if !is_zero(s, second_at(count), CHECK_AT) {
@@ -92,7 +96,7 @@ pub fn read_block(s: &[u8], seconds: u32, n: u32) -> Block
 // The bytes of second i of a block, counted from 0: U, A, B.
 pub fn second(s: &[u8], i: usize) -> &[u8]
     requires { ⌜ (length (now s) ≡ blockSize) × (i < perBlock) ⌝ }
-    ensures { λ r. ⌜ Second (now (s .entry)) i (now r) ⌝ }
+    ensures { λ r. ⌜ SecondIn (now (s .entry)) i (now r) ⌝ }
 {
     let from = second_at(i);
     let end = from + SECOND;

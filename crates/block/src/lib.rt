@@ -1,6 +1,6 @@
 // A book's header and its later blocks (01, "Blocks and text"), 512 bytes each, read from any slice. The answer is the block's
 // fields or the number of the first rule that it breaks (specs/Header.antt, specs/Block.antt); a block is accepted exactly when it
-// has the layout of specs/Layout.antt (proofs/Laid.antt).
+// has the layout of specs/Layout.antt (specs/Claims.antt).
 mod bytes;
 mod header_block;
 mod later_block;

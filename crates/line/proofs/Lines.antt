@@ -7,7 +7,7 @@ use native.Mathlib.Omega.{arith}
 use lib.ListN.{length, drop}
 use borrow.Author.Tests.{lt-ltb, le-ltb}
 use Rattle.line.specs.declared.Answer.the-variants.{Length, Refused}
-use Rattle.line.specs.Put.{Put}
+use Rattle.codec.specs.Put.{Put}
 use Rattle.line.specs.Lined.{Lined}
 
 pub short : (least : ℕ) (b text : List ℕ) → length b < least → Lined least b b (Refused 22) text

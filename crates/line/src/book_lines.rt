@@ -4,14 +4,12 @@ use crate::TOO_SMALL;
 use crate::number::put_count;
 use crate::number::put_field;
 use crate::number::put_sum;
-use crate::put::put_byte;
-use crate::put::put_text;
 use row::KwSeconds;
 use row::Row;
 use row::Sums;
 ghost use Prim.Native.Nat.{_+_, _≤_};
 ghost use lib.ListN.{length};
-ghost use Rattle.line.specs.Put.{Put};
+ghost use Rattle.codec.specs.Put.{Put};
 ghost use Rattle.line.specs.Widths.{lineRoom, plantWidth, sumWidth};
 ghost use Rattle.line.specs.Text.{named};
 ghost use Rattle.line.specs.Line.{plantText, secondText, sumText, refusalText};
@@ -25,8 +23,8 @@ fn put_plant(buf: &mut [u8], at: usize, letter: u8, x: Row) -> usize
     requires { ⌜ at + plantWidth ≤ length (now buf) ⌝ }
     ensures { λ r. ⌜ Put plantWidth (now (buf .entry)) (now (buf .exit)) at r (plantText letter x) ⌝ }
 {
-    let at = put_byte(buf, at, b' ');
-    let at = put_byte(buf, at, letter);
+    let at = codec::put_byte(buf, at, b' ');
+    let at = codec::put_byte(buf, at, letter);
     let at = put_field(buf, at, x.fcr.actual);
     let at = put_field(buf, at, x.afrr.actual);
     let at = put_field(buf, at, x.mfrr.actual);
@@ -41,14 +39,14 @@ fn put_second(buf: &mut [u8], second: u32, u: Row, a: Row, b: Row) -> usize
     let at = put_plant(buf, at, b'U', u);
     let at = put_plant(buf, at, b'A', a);
     let at = put_plant(buf, at, b'B', b);
-    put_byte(buf, at, b'\n')
+    codec::put_byte(buf, at, b'\n')
 }
 
 fn put_named(buf: &mut [u8], at: usize, name: &[u8], v: KwSeconds) -> usize
     requires { ⌜ at + length (now name) + sumWidth ≤ length (now buf) ⌝ }
     ensures { λ r. ⌜ Put (length (now (name .entry)) + sumWidth) (now (buf .entry)) (now (buf .exit)) at r (named (now (name .entry)) (v .0)) ⌝ }
 {
-    let at = put_text(buf, at, name);
+    let at = codec::put_bytes(buf, at, name);
     put_sum(buf, at, v)
 }
 
@@ -60,18 +58,18 @@ fn put_sums(buf: &mut [u8], s: Sums) -> usize
     let at = put_named(buf, at, b" B ", s.b);
     let at = put_named(buf, at, b" open ", s.open);
     let at = put_named(buf, at, b" due ", s.due);
-    put_byte(buf, at, b'\n')
+    codec::put_byte(buf, at, b'\n')
 }
 
 fn put_refusal(buf: &mut [u8], number: u8, seconds: u32) -> usize
     requires { ⌜ lineRoom ≤ length (now buf) ⌝ }
     ensures { λ r. ⌜ Put lineRoom (now (buf .entry)) (now (buf .exit)) 0 r (refusalText number seconds) ⌝ }
 {
-    let at = put_text(buf, 0, b"refused ");
+    let at = codec::put_bytes(buf, 0, b"refused ");
     let at = put_count(buf, at, number as u32);
-    let at = put_text(buf, at, b" at ");
+    let at = codec::put_bytes(buf, at, b" at ");
     let at = put_count(buf, at, seconds);
-    put_byte(buf, at, b'\n')
+    codec::put_byte(buf, at, b'\n')
 }
 
 // The line of a second: the unit's figures, then those of the pools A and B.

@@ -2,7 +2,6 @@
 // and stays as it was; else the answer is the line's length and the bytes past the line stay (specs/Lined.antt).
 mod book_lines;
 mod number;
-mod put;
 mod row_lines;
 
 ghost use mathlib.Core.Path.{_≡_};

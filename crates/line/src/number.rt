@@ -1,5 +1,4 @@
 // Numbers in decimal.
-use crate::put::put_byte;
 use power::Kw;
 use row::KwSeconds;
 ghost use mathlib.Core.Path.{_≡_};
@@ -7,7 +6,7 @@ ghost use Prim.Native.Nat.{_+_, _≤_, _<_};
 ghost use lib.IntN.{natAbs, pos};
 ghost use lib.Signed.{ltZ};
 ghost use lib.ListN.{length};
-ghost use Rattle.line.specs.Put.{Put};
+ghost use Rattle.codec.specs.Put.{Put};
 ghost use Rattle.line.specs.Text.{digit, digits, decimal, field};
 ghost use Rattle.line.specs.Widths.{countWidth, fieldWidth, sumWidth};
 
@@ -27,10 +26,10 @@ fn put_digits(buf: &mut [u8], at: usize, n: u64) -> usize
     ensures { λ r. ⌜ Put (length (digits n)) (now (buf .entry)) (now (buf .exit)) at r (digits n) ⌝ }
 {
     if n < 10 {
-        return put_byte(buf, at, glyph(n));
+        return codec::put_byte(buf, at, glyph(n));
     }
     let to = put_digits(buf, at, n / 10);
-    put_byte(buf, to, glyph(n % 10))
+    codec::put_byte(buf, to, glyph(n % 10))
 }
 
 // A refusal number, or a number of seconds.
@@ -63,7 +62,7 @@ fn put_number(buf: &mut [u8], at: usize, v: Number) -> usize
     ensures { λ r. ⌜ Put (length (decimal (v .0))) (now (buf .entry)) (now (buf .exit)) at r (decimal (v .0)) ⌝ }
 {
     if is_negative(v) {
-        let to = put_byte(buf, at, b'-');
+        let to = codec::put_byte(buf, at, b'-');
         return put_digits(buf, to, magnitude(v));
     }
     put_digits(buf, at, magnitude(v))
@@ -80,7 +79,7 @@ pub(crate) fn put_field(buf: &mut [u8], at: usize, k: Kw) -> usize
     requires { ⌜ at + fieldWidth ≤ length (now buf) ⌝ }
     ensures { λ r. ⌜ Put fieldWidth (now (buf .entry)) (now (buf .exit)) at r (field (k .0)) ⌝ }
 {
-    let to = put_byte(buf, at, b' ');
+    let to = codec::put_byte(buf, at, b' ');
     put_number(buf, to, of_kw(k))
 }
 

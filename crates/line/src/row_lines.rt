@@ -3,12 +3,11 @@ use crate::Answer;
 use crate::TOO_SMALL;
 use crate::number::put_count;
 use crate::number::put_field;
-use crate::put::put_byte;
 use row::KindRow;
 use row::Row;
 ghost use Prim.Native.Nat.{_+_, _≤_};
 ghost use lib.ListN.{length};
-ghost use Rattle.line.specs.Put.{Put};
+ghost use Rattle.codec.specs.Put.{Put};
 ghost use Rattle.line.specs.Widths.{rowRoom, kindWidth};
 ghost use Rattle.line.specs.Line.{kindText, rowText};
 ghost use Rattle.line.specs.Lined.{Lined};
@@ -34,13 +33,13 @@ fn put_row(buf: &mut [u8], second: u32, letter: u8, x: Row) -> usize
     ensures { λ r. ⌜ Put rowRoom (now (buf .entry)) (now (buf .exit)) 0 r (rowText second letter x) ⌝ }
 {
     let at = put_count(buf, 0, second);
-    let at = put_byte(buf, at, b' ');
-    let at = put_byte(buf, at, letter);
+    let at = codec::put_byte(buf, at, b' ');
+    let at = codec::put_byte(buf, at, letter);
     let at = put_kind(buf, at, x.fcr);
     let at = put_kind(buf, at, x.afrr);
     let at = put_kind(buf, at, x.mfrr);
     let at = put_field(buf, at, x.open);
-    put_byte(buf, at, b'\n')
+    codec::put_byte(buf, at, b'\n')
 }
 
 // The line of a plant's second: its letter, every figure of FCR, aFRR and mFRR, then open.

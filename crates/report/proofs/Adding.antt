@@ -10,7 +10,7 @@ use borrow.Rule.Slice.PartMut.{midOf, putMid, post-is}
 use Rattle.line.specs.declared.Answer.{Answer}
 use Rattle.line.specs.declared.Answer.the-variants.{Length}
 use Rattle.line.specs.Lined.{Lined, lengthIn}
-use Rattle.line.specs.Put.{Put}
+use Rattle.codec.specs.Put.{Put}
 use Rattle.line.specs.Widths.{rowRoom}
 use Rattle.report.specs.declared.lines.TextLine.{TextLine}
 use Rattle.report.specs.declared.lines.TextLine.the-variants as text

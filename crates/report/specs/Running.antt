@@ -1,21 +1,22 @@
--- A book run block by block: the text that a block adds, the book after it, and its refusal.
+-- A block run second by second: the text that it adds, the book after it, and its verdict.
 use mathlib.Core.Path.{_≡_}
-use Prim.Native.Nat.{ℕ, zero, suc, _≤_, _<_}
-use mathlib.Core.Bool.{cond}
+use Prim.Native.Nat.{ℕ, zero, suc}
 use mathlib.Core.List.{List, [], _∷_, _++_}
-use lib.Dec.{eqb}
 use Rattle.book.specs.declared.Book.{Book}
 use Rattle.book.specs.declared.BookAnswer.{BookAnswer}
 use Rattle.book.specs.declared.BookAnswer.the-variants as answer
-use Rattle.book.specs.State.{Ready, stepIn}
+use Rattle.book.specs.State.{stepIn, Ready}
 use Rattle.book.specs.State as book
-use Rattle.block.specs.Block.{blockNumber, countOf, dueIn, secondOf}
-use Rattle.line.specs.Put.{Put}
+use Rattle.block.specs.Block.{blockNumber, countOf, secondsFrom}
+use Rattle.codec.specs.Put.{Put}
+use Rattle.report.specs.declared.Form.{Form}
 use Rattle.report.specs.declared.run.Plan.{Plan}
 use Rattle.report.specs.declared.run.Run.{Run}
 use Rattle.report.specs.declared.run.Verdict.{Verdict}
 use Rattle.report.specs.declared.run.Verdict.the-variants.{Accepted, Refused}
 use Rattle.report.specs.Text.{linesOf}
+
+-- ---- the seconds of a block
 
 pub record Ran : Type 0 where
   pub text : List ℕ
@@ -51,11 +52,6 @@ secondsIn p k [] = record { text = []; book = k; verdict = Accepted }
 secondsIn p k (s ∷ ss) =
     followed (secondIn p k s) (secondIn p k s .verdict) (secondsIn p (secondIn p k s .book) ss)
 
--- the next n seconds of a block, from second i on
-unfoldable pub secondsFrom : List ℕ → ℕ → ℕ → List (List ℕ)
-secondsFrom s i zero = []
-secondsFrom s i (suc n) = secondOf s i ∷ secondsFrom s (suc i) n
-
 abbrev pub blockBy : ℕ → Plan → Book → List ℕ → Ran
 blockBy zero p k s = secondsIn p k (secondsFrom s 0 (countOf s))
 blockBy (suc m) p k s = refusedAt k (suc m)
@@ -63,10 +59,6 @@ blockBy (suc m) p k s = refusedAt k (suc m)
 -- block n of bytes s: "A block is wholly read before its first second is judged" (docs/DECISIONS.md)
 unfoldable pub blockIn : Plan → ℕ → Book → List ℕ → Ran
 blockIn p n k s = blockBy (blockNumber s (p .seconds) n) p k s
-
--- "21 for bytes after the last"
-abbrev pub pastLast : ℕ → Verdict
-pastLast got = cond (eqb got 0) Accepted (Refused 21)
 
 -- ---- what the operations answer
 
@@ -79,12 +71,3 @@ pub record Adds (m : ℕ) (b e : List ℕ) (used : ℕ) (r : Run) (w : Ran) : Ty
   pub verdict : r .verdict ≡ w .verdict
   pub text : Put m b e used (r .used) (w .text)
   pub ready : Ready (r .book)
-
--- the blocks that are read together
-abbrev pub atOnce : ℕ
-atOnce = 128
-
--- r later blocks: those in which seconds are due, and no more
-pub record BlocksIn (seconds r : ℕ) : Type 0 where
-  pub due : (n : ℕ) → 0 < n → n ≤ r → 0 < dueIn seconds n
-  pub none : (n : ℕ) → r < n → dueIn seconds n ≡ 0

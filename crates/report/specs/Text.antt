@@ -3,7 +3,6 @@ use Prim.Native.Nat.{ℕ, _*_}
 use Prim.Native.Char.{code}
 use mathlib.Core.List.{List, _++_}
 use Rattle.row.specs.declared.Row.{Row}
-use Rattle.book.specs.declared.Book.{Book}
 use Rattle.block.specs.Places.{perBlock}
 use Rattle.line.specs.Line.{secondText, rowText, sumText, refusalText}
 use Rattle.line.specs.Widths.{lineRoom, rowRoom}
@@ -11,8 +10,6 @@ use Rattle.report.specs.declared.Form.{Form}
 use Rattle.report.specs.declared.Form.the-variants.{Line, Figures}
 use Rattle.report.specs.declared.lines.TextLine.{TextLine}
 use Rattle.report.specs.declared.lines.TextLine.the-variants as text
-use Rattle.report.specs.declared.run.Verdict.{Verdict}
-use Rattle.report.specs.declared.run.Verdict.the-variants.{Accepted, Refused}
 
 -- each line's text, and the least room that its writer takes
 abbrev pub textOf : TextLine → List ℕ
@@ -31,11 +28,6 @@ roomOf (text.Refusal n t) = lineRoom
 abbrev pub linesOf : Form → ℕ → Row → Row → Row → List ℕ
 linesOf Line t u a b = secondText t u a b
 linesOf Figures t u a b = rowText t (code "U") u ++ (rowText t (code "A") a ++ rowText t (code "B") b)
-
--- "then a sum line"; "A refusal prints `refused N at S` instead of the rest, S being seconds accepted so far."
-abbrev pub lastOf : Verdict → Book → List ℕ
-lastOf Accepted k = sumText (k .sums)
-lastOf (Refused n) k = refusalText n (k .unit .seconds)
 
 -- the bytes that the lines of a second take at most, and those of a block
 abbrev pub secondRoom : ℕ

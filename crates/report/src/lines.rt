@@ -1,7 +1,5 @@
 // The lines of a second and the last line, appended to the text that waits.
 use crate::Form;
-use crate::run::Verdict;
-use book::Book;
 use line::Answer;
 use row::Row;
 use row::Sums;
@@ -9,12 +7,12 @@ ghost use mathlib.Core.Path.{_≡_};
 ghost use Prim.Native.Nat.{_+_, _≤_};
 ghost use lib.ListN.{length};
 ghost use Rattle.line.specs.Lined.{Lined};
-ghost use Rattle.line.specs.Put.{Put};
+ghost use Rattle.codec.specs.Put.{Put};
 ghost use Rattle.line.specs.Widths.{rowRoom};
-ghost use Rattle.report.specs.Text.{textOf, roomOf, linesOf, lastOf, secondRoom};
+ghost use Rattle.report.specs.Text.{textOf, roomOf, linesOf, secondRoom};
 
 // The lines that are printed.
-pub(crate) enum TextLine {
+pub enum TextLine {
     Second {
         second: u32,
         unit: Row,
@@ -49,7 +47,7 @@ fn write(buf: &mut [u8], text: TextLine) -> Answer
 }
 
 // Appends a line, and answers where the next one goes.
-pub(crate) fn add(out: &mut [u8], at: usize, text: TextLine) -> usize
+pub fn add(out: &mut [u8], at: usize, text: TextLine) -> usize
     requires { ⌜ at + rowRoom ≤ length (now out) ⌝ }
     ensures { λ r. ⌜ Put rowRoom (now (out .entry)) (now (out .exit)) at r (textOf text) ⌝ }
 {
@@ -96,19 +94,5 @@ pub(crate) fn add_second(
     match form {
         Form::Line => add(out, at, TextLine::Second { second, unit, a, b }),
         Form::Figures => add_figures(out, at, second, unit, a, b),
-    }
-}
-
-// The sum line, or the refusal.
-pub(crate) fn last_line(verdict: Verdict, book: Book) -> TextLine
-    ensures { λ r. ⌜ textOf r ≡ lastOf verdict book ⌝ }
-{
-    let sums = book.sums;
-    match verdict {
-        Verdict::Accepted => TextLine::Sums(sums),
-        Verdict::Refused(number) => TextLine::Refusal {
-            number,
-            seconds: book.unit.seconds,
-        },
     }
 }

@@ -2,5 +2,5 @@
 use report::Form;
 
 fn main() {
-    report::print_book(Form::Line);
+    stdio::print_book(Form::Line);
 }

@@ -4,10 +4,10 @@ use mathlib.Core.Path.{_≡_, refl, sym, ap, _∙_}
 use Prim.Native.Nat.{ℕ}
 use lib.ListN.{drop}
 use denote.Ref.{now}
-use Rattle.block.specs.Places.{checkAt}
+use Rattle.block.specs.Places.{checkAt, secondAt}
 use Rattle.block.specs.Bytes.{part, allZero}
 use Rattle.numbers.specs.Rules.{first}
-use Rattle.block.specs.Block.{dueIn, secondAt, blockRules, blockNumber}
+use Rattle.block.specs.Block.{dueIn, blockRules, blockNumber}
 use Rattle.block.proofs.Tests.{equal, unequal, differs, agrees, negated, applies, passes}
 use borrow.Author.Needs.{needs}
 use Rattle.block.proofs.later_block.block_number.Statement.{statement}
@@ -110,9 +110,6 @@ size-requires c κs = search needs
 returns-6 : tie.Need-returns-6
 returns-6 c = sym (so-far-5 (c .before .before .before) ∙ applies _ _ (differs (c .before .size .ensures) (c .before .before .before .before .due .ensures .0) (c .if6 .taken)))
 
-add-is-zero : tie.Need-add-is-zero
-add-is-zero c = search needs
-
 is-zero-requires : tie.Need-is-zero-requires
 is-zero-requires c κs = search needs
 
@@ -147,7 +144,6 @@ block-number-spec =
     shared-slice-read-size
     size-requires
     returns-6
-    add-is-zero
     is-zero-requires
     returns-7
     second-at-requires

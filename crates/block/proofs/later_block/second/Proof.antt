@@ -4,8 +4,8 @@ use Prim.Native.Nat.{ℕ, _+_, _-_, _<_}
 use mathlib.Core.List.{List}
 use native.Mathlib.Omega.{arith}
 use lib.ListN.{length, length-take, length-drop}
-use Rattle.block.specs.Places.{blockSize, perBlock, secondSize}
-use Rattle.block.specs.Block.{secondAt, secondOf}
+use Rattle.block.specs.Places.{blockSize, perBlock, secondSize, secondAt}
+use Rattle.block.specs.Block.{secondOf}
 use borrow.Author.Needs.{needs}
 use Rattle.block.proofs.later_block.second.Statement.{statement}
 use Rattle.block.proofs.later_block.second.Tie as tie

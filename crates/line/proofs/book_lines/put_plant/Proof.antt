@@ -1,6 +1,6 @@
 -- `line::book_lines::put_plant` meets its contract: a chain of its parts. Assumes nothing.
 use Rattle.line.specs.Line.{plantText}
-use Rattle.line.proofs.Puts.{both}
+use Rattle.codec.proofs.Puts.{both}
 use borrow.Author.Needs.{needs}
 use Rattle.line.proofs.book_lines.put_plant.Statement.{statement}
 use Rattle.line.proofs.book_lines.put_plant.Tie as tie

@@ -1,7 +1,7 @@
 -- `line::book_lines::put_second` meets its contract: a chain of its parts. Assumes nothing.
 use native.Mathlib.Omega.{arith}
 use Rattle.line.specs.Line.{secondText}
-use Rattle.line.proofs.Puts.{both, loosen}
+use Rattle.codec.proofs.Puts.{both, loosen}
 use borrow.Author.Needs.{needs}
 use Rattle.line.proofs.book_lines.put_second.Statement.{statement}
 use Rattle.line.proofs.book_lines.put_second.Tie as tie

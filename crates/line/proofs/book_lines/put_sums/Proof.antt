@@ -1,7 +1,7 @@
 -- `line::book_lines::put_sums` meets its contract: a chain of its parts. Assumes nothing.
 use native.Mathlib.Omega.{arith}
 use Rattle.line.specs.Line.{sumText}
-use Rattle.line.proofs.Puts.{both, loosen}
+use Rattle.codec.proofs.Puts.{both, loosen}
 use borrow.Author.Needs.{needs}
 use Rattle.line.proofs.book_lines.put_sums.Statement.{statement}
 use Rattle.line.proofs.book_lines.put_sums.Tie as tie

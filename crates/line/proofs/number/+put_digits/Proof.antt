@@ -4,7 +4,7 @@ use mathlib.Core.Path.{ap}
 use native.Mathlib.Omega.{arith}
 use lib.ListN.{length, length-append}
 use borrow.Author.Needs.{needs}
-use Rattle.line.proofs.Puts.{both}
+use Rattle.codec.proofs.Puts.{both}
 use Rattle.line.proofs.Digits.{digits-one, digits-more, digits-longer}
 use Prim.Native.Nat.{ℕ, _<_}
 use borrow.Fn.Kinds.{In}
@@ -13,7 +13,7 @@ use Rattle.line.proofs.number.put_digits.Reads as put-digits
 use Rattle.line.proofs.number.put_digits.Kinds as put-digits-kinds
 use Rattle.line.proofs.number.+put_digits.Lts-put_digits as lts
 use Rattle.line.proofs.number.glyph.Reads as glyph-reads
-use Rattle.line.proofs.put.put_byte.Reads as put-byte-reads
+use Rattle.codec.proofs.put_byte.Reads as put-byte-reads
 use Rattle.line.proofs.number.+put_digits.{statement}
 use Rattle.line.proofs.number.+put_digits.Tie.{close}
 

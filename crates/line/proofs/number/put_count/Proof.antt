@@ -1,6 +1,6 @@
 -- `line::number::put_count` meets its contract: a `u32` has at most 10 digits. Assumes nothing.
 use native.Mathlib.Omega.{arith}
-use Rattle.line.proofs.Puts.{sized}
+use Rattle.codec.proofs.Puts.{sized}
 use Rattle.line.proofs.Lengths.{count-most}
 use borrow.Author.Needs.{needs}
 use Rattle.line.proofs.number.put_count.Statement.{statement}

@@ -5,7 +5,7 @@ use lib.ListN.{length}
 use lib.IntN.{ℤ}
 use Rattle.numbers.proofs.Fit.{fit}
 use Rattle.line.specs.Text.{field, decimal}
-use Rattle.line.proofs.Puts.{both, sized}
+use Rattle.codec.proofs.Puts.{both, sized}
 use Rattle.line.proofs.Lengths.{decimal-32}
 use borrow.Author.Needs.{needs}
 use Rattle.line.proofs.number.put_field.Statement.{statement}

@@ -6,7 +6,7 @@ use native.Mathlib.Omega.{arith}
 use lib.ListN.{length}
 use lib.IntN.{ℤ, natAbs}
 use Rattle.line.specs.Text.{ascii, digits, decimal}
-use Rattle.line.proofs.Puts.{both, loosen}
+use Rattle.codec.proofs.Puts.{both, loosen}
 use Rattle.line.proofs.Signs.{decimal-below, decimal-above}
 use borrow.Author.Needs.{needs}
 use Rattle.line.proofs.number.put_number.Statement.{statement}

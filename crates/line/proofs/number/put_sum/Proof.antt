@@ -5,7 +5,7 @@ use lib.ListN.{length}
 use lib.IntN.{ℤ}
 use Rattle.numbers.proofs.Fit.{fit}
 use Rattle.line.specs.Text.{decimal}
-use Rattle.line.proofs.Puts.{sized}
+use Rattle.codec.proofs.Puts.{sized}
 use Rattle.line.proofs.Lengths.{decimal-64}
 use borrow.Author.Needs.{needs}
 use Rattle.line.proofs.number.put_sum.Statement.{statement}

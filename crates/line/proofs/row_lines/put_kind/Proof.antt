@@ -1,6 +1,6 @@
 -- `line::row_lines::put_kind` meets its contract: a chain of its parts. Assumes nothing.
 use Rattle.line.specs.Line.{kindText}
-use Rattle.line.proofs.Puts.{both}
+use Rattle.codec.proofs.Puts.{both}
 use borrow.Author.Needs.{needs}
 use Rattle.line.proofs.row_lines.put_kind.Statement.{statement}
 use Rattle.line.proofs.row_lines.put_kind.Tie as tie

@@ -1,7 +1,7 @@
 -- `line::row_lines::put_row` meets its contract: a chain of its parts. Assumes nothing.
 use native.Mathlib.Omega.{arith}
 use Rattle.line.specs.Line.{rowText}
-use Rattle.line.proofs.Puts.{both, loosen}
+use Rattle.codec.proofs.Puts.{both, loosen}
 use borrow.Author.Needs.{needs}
 use Rattle.line.proofs.row_lines.put_row.Statement.{statement}
 use Rattle.line.proofs.row_lines.put_row.Tie as tie

@@ -1,6 +1,6 @@
 -- `report::lines::add_figures` meets its contract: three lines, one after the other. Assumes nothing.
 use borrow.Author.Needs.{needs}
-use Rattle.line.proofs.Puts.{both}
+use Rattle.codec.proofs.Puts.{both}
 use Rattle.report.proofs.lines.add_figures.Statement.{statement}
 use Rattle.report.proofs.lines.add_figures.Tie as tie
 

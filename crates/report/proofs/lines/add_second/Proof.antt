@@ -1,7 +1,7 @@
 -- `report::lines::add_second` meets its contract, by its form. Assumes nothing.
 use native.Mathlib.Omega.{arith}
 use borrow.Author.Needs.{needs}
-use Rattle.line.proofs.Puts.{loosen}
+use Rattle.codec.proofs.Puts.{loosen}
 use Rattle.report.proofs.lines.add_second.Statement.{statement}
 use Rattle.report.proofs.lines.add_second.Tie as tie
 
