@@ -14,7 +14,7 @@ use Rattle.pieces.specs.declared.standing.Standing.{Standing}
 use Rattle.pieces.specs.declared.standing.Advance.{Advance}
 use Rattle.pieces.specs.declared.reading.Reading.{Reading}
 use Rattle.pieces.specs.declared.reading.Taken.{Taken}
-use Rattle.pieces.specs.Pieces.{Went, unmoved, beyondBy, isDue, standingIn, onward, bytesIn, pieceSize, pieceRoom, StandingReady, Advances, partOf, ReadingReady, Takes, Fitting, Chunked}
+use Rattle.pieces.specs.Pieces.{Went, unmoved, pieceBlocks, BlocksRun, beyondBy, isDue, standingIn, onward, bytesIn, pieceSize, pieceRoom, StandingReady, Advances, partOf, ReadingReady, Takes, Fitting, Chunked}
 use Rattle.pieces.proofs.Bytes.{cut, none-left, beyond-is, beyond, filling, filled-up, whole-block}
 use Rattle.pieces.proofs.Steps.{beyond-text}
 
@@ -41,25 +41,6 @@ past-last r {s} {b} {used} {st} fit room d is ready =
             ready = record { standing = ready; size = fit .ready .size; short = omega arith };
           });
       paced = omega arith;
-    }
-
--- a whole block
-pub in-place : (r : Reading) {s b o : List ℕ} {used : ℕ} {a : Advance} → Fitting r s → length s ≡ blockSize → Advances blockRoom b o used a (standingIn (r .standing) s) → Chunked r s b o used (record { reading = record { standing = a .standing; part = r .part; filled = 0 }; used = a .used })
-in-place r {s} fit size f =
-    let none-there : r .filled ≡ 0 = omega (arith, fit .fits) in
-    let empty : partOf r ≡ [] = ap (λ (n : ℕ). take n (r .part)) none-there in
-    let is : bytesIn (r .standing) (partOf r) s ≡ standingIn (r .standing) s =
-    ap (λ (p : List ℕ). bytesIn (r .standing) p s) empty ∙ whole-block (r .standing) s size in
-    record {
-      takes =
-          rw is
-          (record {
-            standing = f .standing;
-            part = sym (none-left (r .standing) s);
-            text = f .text;
-            ready = record { standing = f .ready; size = fit .ready .size; short = omega arith };
-          });
-      paced = omega (arith, f .text .most);
     }
 
 -- one is: the bytes are put after those of it that were there
@@ -157,3 +138,65 @@ module _ {r : Reading} {s b c : List ℕ} {t : Taken} {at : ℕ} (ready : Readin
 
 pub finished : {r : Reading} {s b e : List ℕ} {t : Taken} {at : ℕ} → Through r s b e t at → length s ≤ at → Takes pieceRoom b e 0 t (bytesIn (r .standing) (partOf r) s)
 finished {s = s} {at = at} f h = rw (take-all at s h) at (f .takes)
+
+-- ---- whole blocks
+
+-- the first k blocks of s are run
+pub record Run (st : Standing) (s b e : List ℕ) (r : Advance) (k : ℕ) : Type 0 where
+  pub blocks : BlocksRun st (take (k * blockSize) s) k b e r
+  pub same : length e ≡ length b
+
+pub begin : {st : Standing} {s b : List ℕ} → StandingReady st → Run st s b b (record { standing = st; used = 0 }) 0
+unfolding bytesIn
+begin {st} {s} {b} ready =
+    record {
+      blocks = record { advances = record { standing = refl; text = loosen (omega arith) (none b 0 (omega arith)); ready = ready }; none-begun = refl; paced = omega arith };
+      same = refl;
+    }
+
+module _ {st : Standing} {s b c : List ℕ} {r : Advance} {k count : ℕ} (size : length s ≡ count * blockSize) (few : count ≤ pieceBlocks) (less : k < count) (f : Run st s b c r k) where
+  pub block-room : pieceRoom ≤ length b → r .used + blockRoom ≤ length c
+  block-room h = omega (arith, f .blocks .paced, f .same)
+
+  pub one-block : {e x : List ℕ} {u : Advance} → x ≡ take blockSize (drop (k * blockSize) s) → Advances blockRoom c e (r .used) u (standingIn (r .standing) x) → Run st s b e u (k + 1)
+  one-block {e} {x} {u} is d =
+      let from = k * blockSize in
+      let w = bytesIn st [] (take from s) in
+      let sum : (k + 1) * blockSize ≡ from + blockSize = omega arith in
+      let longer : take ((k + 1) * blockSize) s ≡ take from s ++ x = ap (λ (n : ℕ). take n s) sum ∙ take-add from blockSize s ∙ ap (λ (l : List ℕ). take from s ++ l) (sym is) in
+      let whole : length x ≡ blockSize = ap length is ∙ simp (length-take, length-drop) (omega arith) in
+      let all : bytesIn st [] (take ((k + 1) * blockSize) s) ≡ onward (w .text) (standingIn (r .standing) x) =
+      ap (bytesIn st []) longer ∙ cut st [] (take from s) x ∙ rw (f .blocks .none-begun, ← f .blocks .advances .standing) (rw (whole-block (r .standing) x whole)) in
+      let text = both (f .blocks .advances .text) (d .text) in
+      record {
+        blocks =
+            record {
+              advances = rw all (record { standing = d .standing; text = sized (omega (arith, text .next, d .text .most, f .blocks .paced)) text; ready = d .ready });
+              none-begun = ap (λ (v : Went). v .part) all ∙ none-left (r .standing) x;
+              paced = omega (arith, d .text .most, f .blocks .paced);
+            };
+        same = kept (d .text) ∙ f .same;
+      }
+
+pub all-blocks : {st : Standing} {s b e : List ℕ} {r : Advance} {k count : ℕ} → length s ≡ count * blockSize → count ≤ k → Run st s b e r k → k ≤ count → BlocksRun st s count b e r
+all-blocks {s = s} {k = k} {count} size done f within =
+    let last : k ≡ count = omega arith in
+    rw (take-all (count * blockSize) s (omega arith)) at (rw last at (f .blocks))
+
+-- and the bytes after them
+pub after-blocks : {r : Reading} {s b c : List ℕ} {a : Advance} {count n : ℕ} → ReadingReady r → r .filled ≡ 0 → n ≡ count * blockSize → n ≤ length s → BlocksRun (r .standing) (take n s) count b c a → Through r s b c (record { reading = record { standing = a .standing; part = r .part; filled = 0 }; used = a .used }) n
+after-blocks {r} {s} {b} {c} {a} {count} {n} ready empty is within f =
+    let begun : partOf r ≡ [] = ap (λ (k : ℕ). take k (r .part)) empty in
+    record {
+      within = within;
+      takes =
+          rw begun
+          (record {
+            standing = f .advances .standing;
+            part = sym (f .none-begun);
+            text = f .advances .text;
+            ready = record { standing = f .advances .ready; size = ready .size; short = omega arith };
+          });
+      paced = omega (arith, f .paced);
+      same = kept (f .advances .text);
+    }

@@ -163,6 +163,12 @@ pub record Takes (m : ℕ) (b e : List ℕ) (used : ℕ) (r : Taken) (w : Went) 
   pub text : Put m b e used (r .used) (w .text)
   pub ready : ReadingReady (r .reading)
 
+-- whole blocks s, so many: none is begun after them
+pub record BlocksRun (st : Standing) (s : List ℕ) (count : ℕ) (b e : List ℕ) (r : Advance) : Type 0 where
+  pub advances : Advances pieceRoom b e 0 r (bytesIn st [] s)
+  pub none-begun : bytesIn st [] s .part ≡ []
+  pub paced : r .used ≤ count * blockRoom
+
 -- some bytes that fit the block next in turn
 pub record Fitting (r : Reading) (s : List ℕ) : Type 0 where
   pub ready : ReadingReady r

@@ -1,8 +1,9 @@
 // A book taken in pieces of any size: whole blocks are run where they lie, and the bytes of one that comes in parts are gathered in an array.
+use crate::standing::Advance;
 use crate::standing::Standing;
 use report::Form;
 use report::Verdict;
-ghost use Prim.Native.Nat.{_+_, _≤_, _<_, min};
+ghost use Prim.Native.Nat.{_+_, _*_, _≤_, _<_, min};
 ghost use mathlib.Core.Path.{_≡_};
 ghost use mathlib.Core.Bool.{true};
 ghost use lib.ListN.{length};
@@ -10,7 +11,7 @@ ghost use Rattle.codec.specs.Put.{Put};
 ghost use Rattle.line.specs.Widths.{rowRoom};
 ghost use Rattle.block.specs.Places.{blockSize};
 ghost use Rattle.report.specs.Text.{blockRoom};
-ghost use Rattle.pieces.specs.Pieces.{isDue, bytesIn, lastIn, partOf, pieceSize, pieceRoom, ReadingReady, Fitting, Chunked, Takes, IsStart, Wanted};
+ghost use Rattle.pieces.specs.Pieces.{isDue, bytesIn, lastIn, partOf, pieceBlocks, pieceSize, pieceRoom, StandingReady, BlocksRun, ReadingReady, Fitting, Chunked, Takes, IsStart, Wanted};
 
 // The most bytes that are taken at once, and the room that their text asks for, three lines a second.
 pub const PIECE: usize = PIECE_BLOCKS * block::SIZE;
@@ -49,6 +50,22 @@ fn at_most_piece(n: usize) -> usize
     ensures { λ r. ⌜ (r ≡ min n pieceSize) × (r ≤ pieceSize) ⌝ }
 {
     if n < PIECE { n } else { PIECE }
+}
+
+// Whole blocks in turn, so many, run where they lie.
+fn run_blocks(standing: Standing, bytes: &[u8], count: usize, out: &mut [u8]) -> Advance
+    requires { ⌜ StandingReady standing × (length (now bytes) ≡ count * blockSize) × (count ≤ pieceBlocks) × (pieceRoom ≤ length (now out)) ⌝ }
+    ensures { λ r. ⌜ BlocksRun standing (now (bytes .entry)) count (now (out .entry)) (now (out .exit)) r ⌝ }
+{
+    let mut run = Advance { standing, used: 0 };
+    let mut k: usize = 0;
+    while k < count {
+        let from = k * block::SIZE;
+        let end = from + block::SIZE;
+        run = run.standing.block(run.used, &bytes[from..end], out);
+        k += 1;
+    }
+    run
 }
 
 impl Reading {
@@ -109,32 +126,11 @@ impl Reading {
         }
     }
 
-    // A whole block, run where it lies: no byte of it was there before.
-    fn whole(self, used: usize, bytes: &[u8], out: &mut [u8]) -> Taken
-        requires { ⌜ Fitting self (now bytes) × (length (now bytes) ≡ blockSize) × (used + blockRoom ≤ length (now out)) ⌝ }
-        ensures { λ r. ⌜ Chunked self (now (bytes .entry)) (now (out .entry)) (now (out .exit)) used r ⌝ }
-    {
-        let part = self.part;
-        let run = self.standing.block(used, bytes, out);
-        let standing = run.standing;
-        Taken {
-            reading: Reading {
-                standing,
-                part,
-                filled: 0,
-            },
-            used: run.used,
-        }
-    }
-
     // Bytes of the block next in turn, or ones that none is due for.
     fn chunk(self, used: usize, bytes: &[u8], out: &mut [u8]) -> Taken
         requires { ⌜ Fitting self (now bytes) × (used + blockRoom ≤ length (now out)) ⌝ }
         ensures { λ r. ⌜ Chunked self (now (bytes .entry)) (now (out .entry)) (now (out .exit)) used r ⌝ }
     {
-        if bytes.len() == block::SIZE {
-            return self.whole(used, bytes, out);
-        }
         let standing = self.standing;
         if standing.is_due() {
             return self.fill(used, bytes, out);
@@ -150,8 +146,8 @@ impl Reading {
         }
     }
 
-    // The next bytes of the book, of any number up to a piece, and their text from the buffer's first byte on.
-    pub fn take(self, bytes: &[u8], out: &mut [u8]) -> Taken
+    // Bytes where a block was begun before them.
+    fn take_parts(self, bytes: &[u8], out: &mut [u8]) -> Taken
         requires { ⌜ ReadingReady self × (length (now bytes) ≤ pieceSize) × (pieceRoom ≤ length (now out)) ⌝ }
         ensures { λ r. ⌜ Takes pieceRoom (now (out .entry)) (now (out .exit)) 0 r (bytesIn (self .standing) (partOf self) (now (bytes .entry))) ⌝ }
     {
@@ -166,6 +162,33 @@ impl Reading {
             at = end;
         }
         taken
+    }
+
+    // The next bytes of the book, of any number up to a piece, and their text from the buffer's first byte on.
+    pub fn take(self, bytes: &[u8], out: &mut [u8]) -> Taken
+        requires { ⌜ ReadingReady self × (length (now bytes) ≤ pieceSize) × (pieceRoom ≤ length (now out)) ⌝ }
+        ensures { λ r. ⌜ Takes pieceRoom (now (out .entry)) (now (out .exit)) 0 r (bytesIn (self .standing) (partOf self) (now (bytes .entry))) ⌝ }
+    {
+        if self.filled != 0 {
+            return self.take_parts(bytes, out);
+        }
+        let count = bytes.len() / block::SIZE;
+        let whole = count * block::SIZE;
+        let part = self.part;
+        let run = run_blocks(self.standing, &bytes[..whole], count, out);
+        let standing = run.standing;
+        let reading = Reading {
+            standing,
+            part,
+            filled: 0,
+        };
+        if whole == bytes.len() {
+            return Taken {
+                reading,
+                used: run.used,
+            };
+        }
+        reading.chunk(run.used, &bytes[whole..], out)
     }
 
     // The last line, where the bytes end here.

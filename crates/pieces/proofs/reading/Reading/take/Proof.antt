@@ -1,68 +1,94 @@
--- `pieces::reading::Reading::take` meets its contract. The invariant: the bytes so far are taken (`Through`). Assumes nothing.
-use Prim.Native.Nat.{_-_}
+-- `pieces::reading::Reading::take` meets its contract: where no block was begun, whole blocks and then the bytes after them. Assumes nothing.
+use mathlib.Core.Path.{_≡_, refl, sym}
+use mathlib.Core.List.{List}
+use Prim.Native.Nat.{ℕ, _*_, _-_, _/_}
 use native.Mathlib.Omega.{arith}
-use mathlib.Core.Path.{refl}
 use lib.ListN.{length, drop, length-take, length-drop}
+use lib.Seq.{length-take-le}
+use Rattle.block.specs.Places.{blockSize}
+use Rattle.pieces.proofs.Chunks.{has-room, more, finished, after-blocks}
 use borrow.Author.Needs.{needs}
-use Rattle.pieces.proofs.Chunks.{Through, start, has-room, more, finished}
 use Rattle.pieces.proofs.reading.Reading.take.Statement.{statement}
 use Rattle.pieces.proofs.reading.Reading.take.Tie as tie
 
-abbrev Inv-loop : tie.InvT-loop
-Inv-loop bytes out₀ taken₀ at₀ out taken at = Through (taken₀ .reading) bytes out₀ out taken at
+-- the bytes of the whole blocks
+abbrev whole : List ℕ → ℕ
+whole s = length s / blockSize * blockSize
 
-abbrev μ-loop : tie.MeasureT-loop
-μ-loop bytes out₀ taken₀ at₀ out taken at = length bytes - at
+take-parts-requires : tie.Need-take-parts-requires
+take-parts-requires c κs = search needs
 
-loop-holds : tie.Need-loop-holds Inv-loop μ-loop
-loop-holds c = start (c .before .before .pre .0)
+same-length : tie.Need-same-length
+same-length c = search needs
 
-chunk-end-requires : tie.Need-chunk-end-requires Inv-loop μ-loop
-chunk-end-requires c κs = (c .before .loop .inv .takes .ready .short, c .loop-test .taken)
+returns : tie.Need-returns
+returns c = search needs
 
-sub-chunk : tie.Need-sub-chunk Inv-loop μ-loop
-sub-chunk c = omega (arith, c .chunk-end .ensures .0)
+mul-whole : tie.Need-mul-whole
+mul-whole c = search needs
 
-part-chunk-start : tie.Need-part-chunk-start Inv-loop μ-loop
+slice-aggregate-run-blocks : tie.Need-slice-aggregate-run-blocks
+slice-aggregate-run-blocks c = sym (length-take-le (whole (c .before .before .before .before .before .before .args .bytes .now)) (c .before .before .before .before .before .before .args .bytes .now) (omega arith))
+
+run-blocks-requires : tie.Need-run-blocks-requires
+run-blocks-requires c κs =
+    let start = c .before .before .before .before .before .before .before in
+    let few = start .pre .1 in
+    (start .pre .0 .standing, length-take-le (whole (start .args .bytes .now)) (start .args .bytes .now) (omega arith), omega (arith, few), start .pre .2)
+
+same-length-2 : tie.Need-same-length-2
+same-length-2 c = search needs
+
+returns-2 : tie.Need-returns-2
+returns-2 c =
+    let start = c .before .before .before .before .before .before .before .before .before .before .before .before in
+    finished (after-blocks {count = length (start .args .bytes .now) / blockSize} (start .pre .0) (c .before .before .before .before .before .before .before .before .if1 .left) refl (omega arith) (c .before .before .before .before .run-blocks .ensures)) (omega (arith, c .if2 .taken))
+
+sub-chunk : tie.Need-sub-chunk
+sub-chunk c = search needs
+
+part-chunk-start : tie.Need-part-chunk-start
 part-chunk-start c = search needs
 
-part-chunk-end : tie.Need-part-chunk-end Inv-loop μ-loop
+part-chunk-end : tie.Need-part-chunk-end
 part-chunk-end c = search needs
 
-chunk-requires : tie.Need-chunk-requires Inv-loop μ-loop
+chunk-requires : tie.Need-chunk-requires
 chunk-requires c κs =
-    let end = c .before .before .chunk-end .ensures in
-    let inv = c .before .before .before .before .loop .inv in
-    let start = c .before .before .before .before .before .before .before in
-    let size = length-take (c .before .before .chunk-end .result - c .before .before .before .before .loop .at) (drop (c .before .before .before .before .loop .at) (start .args .bytes .now)) in
-    let rest = length-drop (c .before .before .before .before .loop .at) (start .args .bytes .now) in
-    (record { ready = inv .takes .ready; some = omega (arith, size, rest, end .0, end .1); fits = omega (arith, size, rest, end .1, end .2) }, has-room (start .pre .0) (start .pre .1) inv (start .pre .2))
+    let start = c .before .before .before .before .before .before .before .before .before .before .before .before .before .before in
+    let s = start .args .bytes .now in
+    let t = after-blocks {count = length (start .args .bytes .now) / blockSize} (start .pre .0) (c .before .before .before .before .before .before .before .before .before .before .if1 .left) refl (omega arith) (c .before .before .before .before .before .before .run-blocks .ensures) in
+    let size = length-take (length s - whole s) (drop (whole s) s) in
+    let rest = length-drop (whole s) s in
+    let left : whole s ≡ length s → ⊥ = c .before .before .if2 .left in
+    (record { ready = t .takes .ready; some = omega (arith, size, rest, left); fits = omega (arith, size, rest) }, has-room (start .pre .0) (start .pre .1) t (start .pre .2))
 
-loop-less : tie.Need-loop-less Inv-loop μ-loop
-loop-less c = omega (arith, c .before .before .before .before .before .chunk-end .ensures .0, c .before .before .before .before .before .chunk-end .ensures .1)
+same-length-3 : tie.Need-same-length-3
+same-length-3 c = search needs
 
-loop-again : tie.Need-loop-again Inv-loop μ-loop
-loop-again c = more (c .before .before .before .before .before .before .before .before .before .before .pre .0) (c .before .before .before .before .before .before .before .before .before .before .pre .1) (c .before .before .before .before .before .before .before .loop .inv) (c .before .before .before .before .before .chunk-end .ensures .0) (c .before .before .before .before .before .chunk-end .ensures .1) refl (c .before .before .chunk .ensures)
-
-same-length : tie.Need-same-length Inv-loop μ-loop
-same-length c = c .before .loop .inv .same
-
-returns : tie.Need-returns Inv-loop μ-loop
-returns c = finished (c .before .loop .inv) (c .loop-test .left)
+returns-3 : tie.Need-returns-3
+returns-3 c =
+    let start = c .before .before .before .before .before .before .before .before .before .before .before .before .before .before .before .before .before in
+    let s = start .args .bytes .now in
+    let t = after-blocks {count = length (start .args .bytes .now) / blockSize} (start .pre .0) (c .before .before .before .before .before .before .before .before .before .before .before .before .before .if1 .left) refl (omega arith) (c .before .before .before .before .before .before .before .before .before .run-blocks .ensures) in
+    let left : whole s ≡ length s → ⊥ = c .before .before .before .before .before .if2 .left in
+    finished (more (start .pre .0) (start .pre .1) t (omega (arith, left)) (omega arith) refl (c .before .before .chunk .ensures)) (omega arith)
 
 pub take-spec : {M : Type 1} → statement M
 take-spec =
     tie.close
     (tie.spec
-    Inv-loop
-    μ-loop
-    loop-holds
-    chunk-end-requires
+    take-parts-requires
+    same-length
+    returns
+    mul-whole
+    slice-aggregate-run-blocks
+    run-blocks-requires
+    same-length-2
+    returns-2
     sub-chunk
     part-chunk-start
     part-chunk-end
     chunk-requires
-    loop-less
-    loop-again
-    same-length
-    returns)
+    same-length-3
+    returns-3)
