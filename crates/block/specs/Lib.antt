@@ -5,4 +5,5 @@ pub mod Said
 pub mod Header
 pub mod Block
 pub mod Layout
+pub mod Writing
 pub mod Claims

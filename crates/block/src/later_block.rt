@@ -18,9 +18,9 @@ const COUNT_AT: usize = 4;
 const COUNT_END: usize = COUNT_AT + 1;
 
 // The first second's place, and the bytes of a second.
-const BODY_AT: usize = 16;
+pub(crate) const BODY_AT: usize = 16;
 
-const SECOND: usize = record::BOOK_SIZE;
+pub(crate) const SECOND: usize = record::BOOK_SIZE;
 
 // The seconds of a block that is not the last.
 pub const PER_BLOCK: usize = 4;

@@ -1,14 +1,17 @@
-// A book's header and its later blocks (01, "Blocks and text"), 512 bytes each, read from any slice. The answer is the block's
+// A book's header and its later blocks (01, "Blocks and text"), 512 bytes each. Read from any slice: the answer is the block's
 // fields or the number of the first rule that it breaks (specs/Header.antt, specs/Block.antt); a block is accepted exactly when it
-// has the layout of specs/Layout.antt (specs/Claims.antt).
+// has the layout of specs/Layout.antt (specs/Claims.antt). Written into a lent buffer (02, W1): specs/Writing.antt.
 mod bytes;
 mod header_block;
 mod later_block;
+mod writers;
 
 pub use header_block::read_header;
 pub use later_block::PER_BLOCK;
 pub use later_block::read_block;
 pub use later_block::second;
+pub use writers::write_block;
+pub use writers::write_header;
 
 // The bytes of a block, and the place of its check.
 pub const SIZE: usize = 512;
@@ -24,5 +27,11 @@ pub enum Header {
 // What a later block gives: how many seconds are in it, or the refusal number. Their bytes are parts of the caller's slice (`second`).
 pub enum Block {
     Seconds(usize),
+    Refused(u8),
+}
+
+// What a writer answers: that the buffer now holds the block, or the refusal number, and the buffer is as found.
+pub enum Written {
+    Done,
     Refused(u8),
 }

@@ -29,10 +29,10 @@ so-far-2 : (c : tie.Else2) → Left 2 (start-2 c)
 so-far-2 c = so-far-1 (c .before .before .before) ∙ passes _ _ (agrees (c .before .before .read-u32 .ensures) (c .before .check-of .ensures) (c .if2 .left))
 
 abbrev start-3 : tie.Else3 → tie.Start
-start-3 c = start-2 (c .before .before .before .before)
+start-3 c = start-2 (c .before .before .before)
 
 so-far-3 : (c : tie.Else3) → Left 3 (start-3 c)
-so-far-3 c = so-far-2 (c .before .before .before .before) ∙ passes _ _ (agrees (c .before .before .before .read-u322 .ensures) (c .before .read-u323 .ensures) (c .if3 .left))
+so-far-3 c = so-far-2 (c .before .before .before) ∙ passes _ _ (agrees (c .before .before .read-u322 .ensures) (c .before .first-bytes .ensures) (c .if3 .left))
 
 abbrev start-4 : tie.Else4 → tie.Start
 start-4 c = start-3 (c .before .before)
@@ -50,13 +50,13 @@ abbrev start-6 : tie.Else6 → tie.Start
 start-6 c = start-5 (c .before .before)
 
 so-far-6 : (c : tie.Else6) → Left 6 (start-6 c)
-so-far-6 c = so-far-5 (c .before .before) ∙ passes _ _ (unequal (c .before .read-u324 .ensures) refl (c .if6 .left))
+so-far-6 c = so-far-5 (c .before .before) ∙ passes _ _ (unequal (c .before .read-u323 .ensures) refl (c .if6 .left))
 
 abbrev start-7 : tie.Else7 → tie.Start
 start-7 c = start-6 (c .before)
 
 so-far-7 : (c : tie.Else7) → Left 7 (start-7 c)
-so-far-7 c = so-far-6 (c .before) ∙ passes _ _ (not-less refl (c .before .before .read-u324 .ensures) (c .if7 .left))
+so-far-7 c = so-far-6 (c .before) ∙ passes _ _ (not-less refl (c .before .before .read-u323 .ensures) (c .if7 .left))
 
 abbrev start-8 : tie.Else8 → tie.Start
 start-8 c = start-7 (c .before .before)
@@ -86,14 +86,11 @@ returns-2 c = sym (so-far-1 (c .before .before .before) ∙ applies _ _ (differs
 read-u32-requires-2 : tie.Need-read-u32-requires-2
 read-u32-requires-2 c κs = search needs
 
-slice-aggregate-read-u32 : tie.Need-slice-aggregate-read-u32
-slice-aggregate-read-u32 c = search needs
-
-read-u32-requires-3 : tie.Need-read-u32-requires-3
-read-u32-requires-3 c κs = search needs
+first-bytes-requires : tie.Need-first-bytes-requires
+first-bytes-requires c κs = search needs
 
 returns-3 : tie.Need-returns-3
-returns-3 c = sym (so-far-2 (c .before .before .before .before) ∙ applies _ _ (differs (c .before .before .before .read-u322 .ensures) (c .before .read-u323 .ensures) (c .if3 .taken)))
+returns-3 c = sym (so-far-2 (c .before .before .before) ∙ applies _ _ (differs (c .before .before .read-u322 .ensures) (c .before .first-bytes .ensures) (c .if3 .taken)))
 
 read-u16-requires : tie.Need-read-u16-requires
 read-u16-requires c κs = search needs
@@ -107,14 +104,14 @@ shared-slice-read-if5 c = search needs
 returns-5 : tie.Need-returns-5
 returns-5 c = sym (so-far-4 (c .before .before) ∙ applies _ _ (less refl refl (c .if5 .taken)))
 
-read-u32-requires-4 : tie.Need-read-u32-requires-4
-read-u32-requires-4 c κs = search needs
+read-u32-requires-3 : tie.Need-read-u32-requires-3
+read-u32-requires-3 c κs = search needs
 
 returns-6 : tie.Need-returns-6
-returns-6 c = sym (so-far-5 (c .before .before) ∙ applies _ _ (equal (c .before .read-u324 .ensures) refl (c .if6 .taken)))
+returns-6 c = sym (so-far-5 (c .before .before) ∙ applies _ _ (equal (c .before .read-u323 .ensures) refl (c .if6 .taken)))
 
 returns-7 : tie.Need-returns-7
-returns-7 c = sym (so-far-6 (c .before) ∙ applies _ _ (less refl (c .before .before .read-u324 .ensures) (c .if7 .taken)))
+returns-7 c = sym (so-far-6 (c .before) ∙ applies _ _ (less refl (c .before .before .read-u323 .ensures) (c .if7 .taken)))
 
 shared-slice-read-if8 : tie.Need-shared-slice-read-if8
 shared-slice-read-if8 c = search needs
@@ -140,14 +137,13 @@ header-number-spec =
     check-of-requires
     returns-2
     read-u32-requires-2
-    slice-aggregate-read-u32
-    read-u32-requires-3
+    first-bytes-requires
     returns-3
     read-u16-requires
     returns-4
     shared-slice-read-if5
     returns-5
-    read-u32-requires-4
+    read-u32-requires-3
     returns-6
     returns-7
     shared-slice-read-if8

@@ -1,0 +1,71 @@
+-- What a writer's number says of its arguments, and what it then leaves. Assumes nothing.
+use mathlib.Core.Path.{_≡_, refl, sym, ap, _∙_}
+use mathlib.Core.List.{List}
+use Prim.Native.Nat.{ℕ, zero, suc, _*_, _/_, _%_, _≤_, _<_}
+use native.Mathlib.Omega.{arith}
+use lib.ListN.{length}
+use borrow.Author.Tests.{eqb-false, ltb-false}
+use Rattle.record.specs.Record.{mostSeconds, allKinds}
+use Rattle.numbers.proofs.Rules.{none, no-number}
+use Rattle.block.specs.Places.{blockSize, perBlock, secondSize}
+use Rattle.block.specs.Said.{refused}
+use Rattle.block.specs.Writing.{Outcome, wrote, wroteBy, writeHeaderRules, writeHeaderNumber, writeBlockRules, writeBlockNumber}
+use Rattle.block.proofs.Answers.{same, positive}
+use Rattle.block.proofs.Tests.{unequal, not-less, agrees}
+
+-- a refusal, and a block written
+pub refusal : (n : ℕ) (b s : List ℕ) → (n ≡ 0 → ⊥) → record { said = refused n; buffer = b } ≡ wroteBy n b s
+refusal zero b s h = absurd (h refl)
+refusal (suc n) b s h = refl
+
+pub written : (n : ℕ) (b s e : List ℕ) → n ≡ 0 → e ≡ s → wrote e ≡ wroteBy n b s
+written n b s e h f = rw (h, f)
+
+pub record FitHeader (len owner seconds : ℕ) : Type 0 where
+  pub len-is : len ≡ blockSize
+  pub owners : owner ≤ allKinds
+  pub some : 0 < seconds
+  pub most : seconds ≤ mostSeconds
+
+pub fit-header : (len owner seconds : ℕ) → writeHeaderNumber len owner seconds ≡ 0 → FitHeader len owner seconds
+unfolding writeHeaderNumber
+fit-header len owner seconds e =
+    let r = none (writeHeaderRules len owner seconds) refl e in
+    record {
+      len-is = same _ _ (r .0);
+      owners = ltb-false _ _ (r .1 .0);
+      some = positive _ (eqb-false _ _ (r .1 .1 .0));
+      most = ltb-false _ _ (r .1 .1 .1 .0);
+    }
+
+pub header-fits : (len owner seconds : ℕ) → FitHeader len owner seconds → writeHeaderNumber len owner seconds ≡ 0
+unfolding writeHeaderNumber
+header-fits len owner seconds f =
+    let some : seconds ≡ 0 → ⊥ = λ e. omega (arith, f .some) in
+    no-number (writeHeaderRules len owner seconds) (agrees refl refl (f .len-is), (not-less refl refl (f .owners), (unequal refl refl some, (not-less refl refl (f .most), tt))))
+
+pub record FitBlock (len n bytes : ℕ) : Type 0 where
+  pub len-is : len ≡ blockSize
+  pub number : 0 < n
+  pub whole : bytes % secondSize ≡ 0
+  pub some : 0 < bytes / secondSize
+  pub few : bytes / secondSize ≤ perBlock
+
+pub fit-block : (len n bytes : ℕ) → writeBlockNumber len n bytes ≡ 0 → FitBlock len n bytes
+unfolding writeBlockNumber
+fit-block len n bytes e =
+    let r = none (writeBlockRules len n bytes) refl e in
+    record {
+      len-is = same _ _ (r .0);
+      number = positive _ (eqb-false _ _ (r .1 .0));
+      whole = same _ _ (r .1 .1 .0);
+      some = positive _ (eqb-false _ _ (r .1 .1 .1 .0));
+      few = ltb-false _ _ (r .1 .1 .1 .1 .0);
+    }
+
+pub block-fits : (len n bytes : ℕ) → FitBlock len n bytes → writeBlockNumber len n bytes ≡ 0
+unfolding writeBlockNumber
+block-fits len n bytes f =
+    let one : n ≡ 0 → ⊥ = λ e. omega (arith, f .number) in
+    let some : bytes / secondSize ≡ 0 → ⊥ = λ e. omega (arith, f .some) in
+    no-number (writeBlockRules len n bytes) (agrees refl refl (f .len-is), (unequal refl refl one, (agrees refl refl (f .whole), (unequal refl refl some, (not-less refl refl (f .few), tt)))))
