@@ -5,3 +5,6 @@ pub mod Puts
 pub mod Taken
 pub mod Writing
 pub mod Claims
+pub mod ReadBack
+pub mod Book
+pub mod WriterClaims

@@ -1,13 +1,12 @@
 -- Zeros put one after the other, and a block put together of its front and its check. Assumes nothing.
-use mathlib.Core.Path.{_≡_, refl, sym, ap, _∙_}
+use mathlib.Core.Path.{_≡_, ap, _∙_}
 use mathlib.Core.List.{List, [], _∷_, _++_}
-use Prim.Native.Nat.{ℕ, zero, suc, _+_, _*_, _-_, _≤_, _<_}
+use Prim.Native.Nat.{ℕ, _+_, _*_, _-_, _≤_}
 use native.Mathlib.Omega.{arith}
-use native.Mathlib.Numerals.{add-one}
 use lib.Seq.{take-at}
-use lib.ListN.{length, take, drop, replicate, replicate-append-replicate, length-append, length-replicate, drop-of-length-le}
+use lib.ListN.{length, take, drop, replicate-append-replicate, length-append, length-replicate, drop-of-length-le}
 use Rattle.codec.specs.Little.{u32At, le2, le4}
-use Rattle.codec.specs.Put.{over, Put}
+use Rattle.codec.specs.Put.{Put}
 use Rattle.codec.proofs.Puts.{both, loosen, none}
 use Rattle.block.specs.Places.{blockSize, checkAt, version, headerEnd, countEnd, bodyAt, secondSize, perBlock}
 use Rattle.block.specs.Bytes.{part, zeros}

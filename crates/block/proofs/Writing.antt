@@ -1,14 +1,13 @@
 -- What a writer's number says of its arguments, and what it then leaves. Assumes nothing.
-use mathlib.Core.Path.{_≡_, refl, sym, ap, _∙_}
-use mathlib.Core.List.{List}
-use Prim.Native.Nat.{ℕ, zero, suc, _*_, _/_, _%_, _≤_, _<_}
+use mathlib.Core.Path.{_≡_, refl, ap}
+use mathlib.Core.List.{List, []}
+use Prim.Native.Nat.{ℕ, zero, suc, _/_, _%_, _≤_, _<_}
 use native.Mathlib.Omega.{arith}
-use lib.ListN.{length}
 use borrow.Author.Tests.{eqb-false, ltb-false}
 use Rattle.record.specs.Record.{mostSeconds, allKinds}
 use Rattle.numbers.proofs.Rules.{none, no-number}
 use Rattle.block.specs.Places.{blockSize, perBlock, secondSize}
-use Rattle.block.specs.Said.{refused}
+use Rattle.block.specs.Said.{values, refused}
 use Rattle.block.specs.Writing.{Outcome, wrote, wroteBy, writeHeaderRules, writeHeaderNumber, writeBlockRules, writeBlockNumber}
 use Rattle.block.proofs.Answers.{same, positive}
 use Rattle.block.proofs.Tests.{unequal, not-less, agrees}
@@ -20,6 +19,12 @@ refusal (suc n) b s h = refl
 
 pub written : (n : ℕ) (b s e : List ℕ) → n ≡ 0 → e ≡ s → wrote e ≡ wroteBy n b s
 written n b s e h f = rw (h, f)
+
+pub was-written : (n : ℕ) (b x s : List ℕ) → wroteBy n b x ≡ wrote s → (n ≡ 0) × (x ≡ s)
+was-written zero b x s e = (refl, ap (λ (o : Outcome). o .buffer) e)
+was-written (suc n) b x s e =
+    let f : refused (suc n) ≡ values [] = ap (λ (o : Outcome). o .said) e in
+    (cc, cc)
 
 pub record FitHeader (len owner seconds : ℕ) : Type 0 where
   pub len-is : len ≡ blockSize

@@ -6,4 +6,6 @@ pub mod Header
 pub mod Block
 pub mod Layout
 pub mod Writing
+pub mod Book
 pub mod Claims
+pub mod WriterClaims

@@ -1,11 +1,11 @@
 // A header and later blocks written into a lent buffer of 512 bytes (02, W1), field after field, the check last.
 ghost use mathlib.Core.Path.{_≡_};
-ghost use Prim.Native.Nat.{_+_, _*_, _≤_};
+ghost use Prim.Native.Nat.{_*_, _≤_};
 ghost use lib.ListN.{length};
 ghost use Rattle.codec.specs.Put.{Put};
 ghost use Rattle.block.specs.Places.{blockSize, checkAt, perBlock, secondSize};
 ghost use Rattle.block.specs.Bytes.{part};
-ghost use Rattle.block.specs.Layout.{closed, headerFront, blockFront, countIn};
+ghost use Rattle.block.specs.Layout.{closed, headerFront, blockFront};
 ghost use Rattle.block.specs.Writing.{writeHeaderNumber, writeBlockNumber, headerWritten, blockWritten, outcome};
 use crate::CHECK_AT;
 use crate::SIZE;

@@ -1,5 +1,4 @@
 -- `block::writers::put_check` meets its contract. Assumes nothing.
-use mathlib.Core.Path.{_≡_}
 use borrow.Author.Needs.{needs}
 use Rattle.block.proofs.Puts.{checked}
 use Rattle.block.proofs.writers.put_check.Statement.{statement}

@@ -1,5 +1,4 @@
 -- `block::writers::write_header_number` meets its contract, test by test. Assumes nothing.
-use borrow.Author.Needs.{needs}
 use Rattle.numbers.proofs.Test.{tests}
 use Rattle.block.specs.Writing.{writeHeaderNumber}
 use Rattle.block.proofs.writers.write_header_number.Statement.{statement}
