@@ -79,8 +79,8 @@ block-put {a2 = a2} {a4 = a4} n body p1 p2 p3 p4 p5 few =
 
 -- ---- the front and then the check
 
-pub front-put : {b e front : List ℕ} {r : ℕ} → length front ≡ checkAt → Put checkAt b e 0 r front → part e 0 checkAt ≡ front
-front-put {front = front} h p = ap (take checkAt) (p .bytes) ∙ take-at front _ checkAt h
+pub close-put : {b c e front : List ℕ} {r : ℕ} → length front ≡ checkAt → Put checkAt b c 0 r front → e ≡ closed (part c 0 checkAt) → e ≡ closed front
+close-put {front = front} h p e = e ∙ ap (λ (c : List ℕ). closed (part c 0 checkAt)) (p .bytes) ∙ ap closed (take-at front _ checkAt h)
 
 pub block-front-length : (n : ℕ) (body : List ℕ) → length body ≤ secondSize * perBlock → length (blockFront n body) ≡ checkAt
 unfolding blockFront

@@ -7,20 +7,28 @@ use borrow.Author.Tests.{eqb-false, ltb-false}
 use Rattle.record.specs.Record.{mostSeconds, allKinds}
 use Rattle.numbers.proofs.Rules.{none, no-number}
 use Rattle.block.specs.Places.{blockSize, perBlock, secondSize}
-use Rattle.block.specs.Said.{values, refused}
-use Rattle.block.specs.Writing.{Outcome, wrote, wroteBy, writeHeaderRules, writeHeaderNumber, writeBlockRules, writeBlockNumber}
+use Rattle.block.specs.Said.{Said, values, refused, answered}
+use Rattle.block.specs.Writing.{bufferBy, Outcome, outcomeBy, wrote, writeHeaderRules, writeHeaderNumber, writeBlockRules, writeBlockNumber}
 use Rattle.block.proofs.Answers.{same, positive}
 use Rattle.block.proofs.Tests.{unequal, not-less, agrees}
 
--- a refusal, and a block written
-pub refusal : (n : ℕ) (b s : List ℕ) → (n ≡ 0 → ⊥) → record { said = refused n; buffer = b } ≡ wroteBy n b s
-refusal zero b s h = absurd (h refl)
-refusal (suc n) b s h = refl
+-- the buffer with a block written, and as found
+pub filled : (n : ℕ) (b : List ℕ) {s e : List ℕ} → n ≡ 0 → e ≡ s → e ≡ bufferBy n b s
+filled n b h f = rw (h, f)
 
-pub written : (n : ℕ) (b s e : List ℕ) → n ≡ 0 → e ≡ s → wrote e ≡ wroteBy n b s
+pub as-found : (n : ℕ) (b s : List ℕ) → (n ≡ 0 → ⊥) → b ≡ bufferBy n b s
+as-found zero b s h = absurd (h refl)
+as-found (suc n) b s h = refl
+
+-- answer and buffer by the number m that the code has
+pub by-number : {r : Said} {n m : ℕ} {e : List ℕ} (b s : List ℕ) → m ≡ n → r ≡ answered m [] → e ≡ bufferBy m b s → record { said = r; buffer = e } ≡ outcomeBy n b s
+by-number b s h p q = rw (p, q, h)
+
+-- a block that was written
+pub written : (n : ℕ) (b s e : List ℕ) → n ≡ 0 → e ≡ s → wrote e ≡ outcomeBy n b s
 written n b s e h f = rw (h, f)
 
-pub was-written : (n : ℕ) (b x s : List ℕ) → wroteBy n b x ≡ wrote s → (n ≡ 0) × (x ≡ s)
+pub was-written : (n : ℕ) (b x s : List ℕ) → outcomeBy n b x ≡ wrote s → (n ≡ 0) × (x ≡ s)
 was-written zero b x s e = (refl, ap (λ (o : Outcome). o .buffer) e)
 was-written (suc n) b x s e =
     let f : refused (suc n) ≡ values [] = ap (λ (o : Outcome). o .said) e in

@@ -8,27 +8,31 @@ use Rattle.block.specs.declared.Written.the-variants.{Done, Refused}
 use Rattle.record.specs.Record.{mostSeconds, allKinds}
 use Rattle.numbers.specs.Rules.{Rule, refuse, first, differ}
 use Rattle.block.specs.Places.{blockSize, perBlock, secondSize}
-use Rattle.block.specs.Said.{Said, values, refused}
+use Rattle.block.specs.Said.{Said, values, refused, answered}
 use Rattle.block.specs.Layout.{headerBytes, blockBytes}
 
--- the answer in document 01's terms, and the buffer after it
+-- what each case of a writer's answer says
+abbrev pub writtenSays : Written → Said
+writtenSays Done = values []
+writtenSays (Refused n) = refused n
+
+-- "a refusal leaves the buffer as found": b; else it is s
+abbrev pub bufferBy : ℕ → List ℕ → List ℕ → List ℕ
+bufferBy zero b s = s
+bufferBy (suc n) b s = b
+
+-- the answer, and the buffer after it
 pub record Outcome : Type 0 where
   pub said : Said
   pub buffer : List ℕ
 
+-- where the writer's number is n, and s is the block to be written into the buffer b
+abbrev pub outcomeBy : ℕ → List ℕ → List ℕ → Outcome
+outcomeBy n b s = record { said = answered n []; buffer = bufferBy n b s }
+
 -- the block s was written
 abbrev pub wrote : List ℕ → Outcome
 wrote s = record { said = values []; buffer = s }
-
--- "a refusal leaves the buffer as found": b
-abbrev pub wroteBy : ℕ → List ℕ → List ℕ → Outcome
-wroteBy zero b s = wrote s
-wroteBy (suc n) b s = record { said = refused (suc n); buffer = b }
-
--- what each case of a writer's answer says, with the buffer e after it
-abbrev pub outcome : Written → List ℕ → Outcome
-outcome Done e = wrote e
-outcome (Refused n) e = record { said = refused n; buffer = e }
 
 -- ---- the header
 
@@ -46,7 +50,7 @@ writeHeaderNumber len owner seconds = first (writeHeaderRules len owner seconds)
 
 -- into the buffer b
 abbrev pub headerWritten : List ℕ → ℕ → ℕ → Outcome
-headerWritten b owner seconds = wroteBy (writeHeaderNumber (length b) owner seconds) b (headerBytes owner seconds)
+headerWritten b owner seconds = outcomeBy (writeHeaderNumber (length b) owner seconds) b (headerBytes owner seconds)
 
 -- ---- a later block
 
@@ -65,4 +69,4 @@ writeBlockNumber len n bytes = first (writeBlockRules len n bytes)
 
 -- block n of the bytes of its seconds, into the buffer b
 abbrev pub blockWritten : List ℕ → ℕ → List ℕ → Outcome
-blockWritten b n body = wroteBy (writeBlockNumber (length b) n (length body)) b (blockBytes n body)
+blockWritten b n body = outcomeBy (writeBlockNumber (length b) n (length body)) b (blockBytes n body)

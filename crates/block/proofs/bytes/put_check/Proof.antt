@@ -1,8 +1,8 @@
--- `block::writers::put_check` meets its contract. Assumes nothing.
+-- `block::bytes::put_check` meets its contract. Assumes nothing.
 use borrow.Author.Needs.{needs}
 use Rattle.block.proofs.Puts.{checked}
-use Rattle.block.proofs.writers.put_check.Statement.{statement}
-use Rattle.block.proofs.writers.put_check.Tie as tie
+use Rattle.block.proofs.bytes.put_check.Statement.{statement}
+use Rattle.block.proofs.bytes.put_check.Tie as tie
 
 check-of-requires : tie.Need-check-of-requires
 check-of-requires c κs = search needs

@@ -1,8 +1,8 @@
--- `block::writers::write_block_number` meets its contract, test by test. Assumes nothing.
+-- `block::block_writer::write_block_number` meets its contract, test by test. Assumes nothing.
 use Rattle.numbers.proofs.Test.{tests}
 use Rattle.block.specs.Writing.{writeBlockNumber}
-use Rattle.block.proofs.writers.write_block_number.Statement.{statement}
-use Rattle.block.proofs.writers.write_block_number.Tie as tie
+use Rattle.block.proofs.block_writer.write_block_number.Statement.{statement}
+use Rattle.block.proofs.block_writer.write_block_number.Tie as tie
 
 returns : tie.Need-returns
 unfolding writeBlockNumber

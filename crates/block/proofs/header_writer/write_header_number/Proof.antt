@@ -1,8 +1,8 @@
--- `block::writers::write_header_number` meets its contract, test by test. Assumes nothing.
+-- `block::header_writer::write_header_number` meets its contract, test by test. Assumes nothing.
 use Rattle.numbers.proofs.Test.{tests}
 use Rattle.block.specs.Writing.{writeHeaderNumber}
-use Rattle.block.proofs.writers.write_header_number.Statement.{statement}
-use Rattle.block.proofs.writers.write_header_number.Tie as tie
+use Rattle.block.proofs.header_writer.write_header_number.Statement.{statement}
+use Rattle.block.proofs.header_writer.write_header_number.Tie as tie
 
 returns : tie.Need-returns
 unfolding writeHeaderNumber

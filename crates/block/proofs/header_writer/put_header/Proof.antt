@@ -1,8 +1,10 @@
--- `block::writers::put_header` meets its contract: the fields put in turn. Assumes nothing.
+-- `block::header_writer::put_header` meets its contract: the fields put in turn, then the check. Assumes nothing.
+use mathlib.Core.Path.{refl}
+use Rattle.block.specs.Layout.{headerFront}
+use Rattle.block.proofs.Puts.{header-put, close-put}
 use borrow.Author.Needs.{needs}
-use Rattle.block.proofs.Puts.{header-put}
-use Rattle.block.proofs.writers.put_header.Statement.{statement}
-use Rattle.block.proofs.writers.put_header.Tie as tie
+use Rattle.block.proofs.header_writer.put_header.Statement.{statement}
+use Rattle.block.proofs.header_writer.put_header.Tie as tie
 
 first-bytes-requires : tie.Need-first-bytes-requires
 first-bytes-requires c κs = search needs
@@ -25,19 +27,25 @@ put-u32-requires-2 c κs = search needs
 put-zeros-requires : tie.Need-put-zeros-requires
 put-zeros-requires c κs = search needs
 
+put-check-requires : tie.Need-put-check-requires
+put-check-requires c κs = search needs
+
 same-length : tie.Need-same-length
 same-length c = search needs
 
 returns : tie.Need-returns
+unfolding headerFront
 returns c =
-    let p6 = c .before .before in
+    let p7 = c .before .before in
+    let p6 = p7 .before .before .before .before in
     let p5 = p6 .before .before .before .before in
     let p4 = p5 .before .before .before .before in
     let p3 = p4 .before .before .before .before in
     let p2 = p3 .before .before .before .before in
     let p1 = p2 .before .before .before .before in
     let args = p1 .before .before .before .before .args in
-    header-put (p1 .before .first-bytes .result) (args .owner) (args .seconds) (p1 .before .first-bytes .ensures) (p1 .put-u32 .ensures) (p2 .put-u16 .ensures) (p3 .put-byte .ensures) (p4 .put-byte2 .ensures) (p5 .put-u322 .ensures) (p6 .put-zeros .ensures)
+    let put = header-put (p1 .before .first-bytes .result) (args .owner) (args .seconds) (p1 .before .first-bytes .ensures) (p1 .put-u32 .ensures) (p2 .put-u16 .ensures) (p3 .put-byte .ensures) (p4 .put-byte2 .ensures) (p5 .put-u322 .ensures) (p6 .put-zeros .ensures) in
+    close-put refl put (p7 .put-check .ensures)
 
 pub put-header-spec : {M : Type 1} → statement M
 put-header-spec =
@@ -50,5 +58,6 @@ put-header-spec =
     put-byte-requires-2
     put-u32-requires-2
     put-zeros-requires
+    put-check-requires
     same-length
     returns)
