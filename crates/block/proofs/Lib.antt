@@ -8,3 +8,4 @@ pub mod Claims
 pub mod ReadBack
 pub mod Book
 pub mod WriterClaims
+pub mod Values

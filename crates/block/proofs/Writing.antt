@@ -55,7 +55,7 @@ pub header-fits : (len owner seconds : ℕ) → FitHeader len owner seconds → 
 unfolding writeHeaderNumber
 header-fits len owner seconds f =
     let some : seconds ≡ 0 → ⊥ = λ e. omega (arith, f .some) in
-    no-number (writeHeaderRules len owner seconds) (agrees refl refl (f .len-is), (not-less refl refl (f .owners), (unequal refl refl some, (not-less refl refl (f .most), tt))))
+    no-number (writeHeaderRules len owner seconds) (agrees (f .len-is) refl refl, (not-less (f .owners) refl refl, (unequal some refl refl, (not-less (f .most) refl refl, tt))))
 
 pub record FitBlock (len n bytes : ℕ) : Type 0 where
   pub len-is : len ≡ blockSize
@@ -81,4 +81,4 @@ unfolding writeBlockNumber
 block-fits len n bytes f =
     let one : n ≡ 0 → ⊥ = λ e. omega (arith, f .number) in
     let some : bytes / secondSize ≡ 0 → ⊥ = λ e. omega (arith, f .some) in
-    no-number (writeBlockRules len n bytes) (agrees refl refl (f .len-is), (unequal refl refl one, (agrees refl refl (f .whole), (unequal refl refl some, (not-less refl refl (f .few), tt)))))
+    no-number (writeBlockRules len n bytes) (agrees (f .len-is) refl refl, (unequal one refl refl, (agrees (f .whole) refl refl, (unequal some refl refl, (not-less (f .few) refl refl, tt)))))

@@ -9,3 +9,4 @@ pub mod Writing
 pub mod Book
 pub mod Claims
 pub mod WriterClaims
+pub mod Values
