@@ -7,11 +7,11 @@ use native.Mathlib.Numerals.{unary-clauses}
 use lib.ListN.{length, take, drop, length-append, length-take, length-drop, take-append-drop}
 use lib.Seq.{take-at, drop-at, drop-drop}
 use Rattle.block.specs.Places.{blockSize, perBlock, secondSize, secondAt}
-use Rattle.block.specs.Block.{countOf, dueIn, blockNumber, secondOf}
+use Rattle.block.specs.Block.{countOf, dueIn, blockNumber, secondOf, secondsFrom}
 use Rattle.block.specs.Layout.{countIn, headerFront, headerBytes, blockFront, blockBytes}
 use Rattle.block.specs.Header.{headerOf}
 use Rattle.block.specs.Writing.{wrote, headerWritten, blockWritten}
-use Rattle.block.specs.Book.{lastBlock, secondsFrom, Held, heldBy, laterBlocks, blocksOf, WholeSeconds, joined, laterBytes, bookBytes}
+use Rattle.block.specs.Book.{lastBlock, Held, heldBy, laterBlocks, blocksOf, WholeSeconds, joined, laterBytes, bookBytes}
 use Rattle.record.specs.Record.{mostSeconds, allKinds}
 use Rattle.block.specs.WriterClaims.{BookBack}
 use Rattle.block.proofs.Answers.{accepted}

@@ -1,7 +1,7 @@
 -- "Others: 0-3 block number from 1, 4 seconds in it (4, fewer only in the last), from 16 on 108 bytes a second: U, A, B. All else is 0."
 -- (01, "Blocks and text")
 use mathlib.Core.Path.{_≡_}
-use Prim.Native.Nat.{ℕ, _*_, _-_, min}
+use Prim.Native.Nat.{ℕ, zero, suc, _*_, _-_, min}
 use mathlib.Core.Bool.{not}
 use mathlib.Core.List.{List, [], _∷_}
 use lib.ListN.{length, getD, take, drop}
@@ -50,6 +50,11 @@ blockSays (Refused n) = refused n
 -- the bytes of second i of a block: U, A, B
 abbrev pub secondOf : List ℕ → ℕ → List ℕ
 secondOf s i = take secondSize (drop (secondAt i) s)
+
+-- the bytes of n seconds of a block, from second i on
+unfoldable pub secondsFrom : List ℕ → ℕ → ℕ → List (List ℕ)
+secondsFrom s i zero = []
+secondsFrom s i (suc n) = secondOf s i ∷ secondsFrom s (suc i) n
 
 -- what `second` answers
 pub record SecondIn (s : List ℕ) (i : ℕ) (r : List ℕ) : Type 0 where

@@ -5,7 +5,7 @@ use mathlib.Core.List.{List, [], _∷_, _++_}
 use Prim.Native.Nat.{ℕ, zero, suc, _+_, _-_, _/_}
 use lib.ListN.{length, take, drop}
 use Rattle.block.specs.Places.{blockSize, perBlock, secondSize}
-use Rattle.block.specs.Block.{blockNumber, countOf, secondOf}
+use Rattle.block.specs.Block.{blockNumber, countOf, secondsFrom}
 use Rattle.block.specs.Layout.{headerBytes, blockBytes}
 
 -- the number of the last block of a book of t seconds: 4 in each, fewer only in the last
@@ -13,11 +13,6 @@ abbrev pub lastBlock : ℕ → ℕ
 lastBlock t = (t + (perBlock - 1)) / perBlock
 
 -- ---- read
-
--- the bytes of n seconds of a block, from second i on
-unfoldable pub secondsFrom : List ℕ → ℕ → ℕ → List (List ℕ)
-secondsFrom s i zero = []
-secondsFrom s i (suc n) = secondOf s i ∷ secondsFrom s (suc i) n
 
 -- the seconds in turn up to the first block that is refused, and its number, 0 where none is
 pub record Held : Type 0 where

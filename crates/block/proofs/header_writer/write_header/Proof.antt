@@ -1,9 +1,10 @@
 -- `block::header_writer::write_header` meets its contract: with a number nothing is put. Assumes nothing.
-use mathlib.Core.Path.{sym, _∙_}
+use mathlib.Core.Path.{_≡_, sym, _∙_}
 use mathlib.Core.Logic.{⊎-elim}
 use lib.ListN.{length}
 use denote.Ref.{now}
 use Rattle.block.specs.Layout.{headerBytes}
+use Rattle.block.specs.Writing.{bufferBy}
 use Rattle.block.proofs.Writing.{FitHeader, fit-header, filled, as-found, by-number}
 use borrow.Author.Needs.{needs}
 use Rattle.block.proofs.header_writer.write_header.Statement.{statement}
@@ -24,13 +25,12 @@ answer-by-requires c κs = search needs
 same-length : tie.Need-same-length
 same-length c = ⊎-elim (λ w. search needs) (λ w. search needs) (c .before .if1 .came)
 
+-- the buffer, by which arm control came
+buffer : (c : tie.After-answer-by) → c .before .if1 .buf ≡ bufferBy (c .before .before .write-header-number .result) (now (c .before .before .before .before .args .buf)) (headerBytes (c .before .before .before .before .args .owner) (c .before .before .before .before .args .seconds))
+buffer c = ⊎-elim (λ w. filled _ _ (w .0 .taken) (w .5 ∙ w .2 .ensures)) (λ w. w .1 ∙ as-found _ _ _ (w .0 .left)) (c .before .if1 .came)
+
 returns : tie.Need-returns
-returns c =
-    let at = c .before .before in
-    let args = at .before .before .args in
-    let b = now (args .buf) in
-    let s = headerBytes (args .owner) (args .seconds) in
-    by-number b s (at .write-header-number .ensures) (c .answer-by .ensures) (⊎-elim (λ w. filled _ b (w .0 .taken) (w .5 ∙ w .2 .ensures)) (λ w. w .1 ∙ as-found _ b s (w .0 .left)) (c .before .if1 .came))
+returns c = by-number _ _ (c .before .before .write-header-number .ensures) (c .answer-by .ensures) (buffer c)
 
 pub write-header-spec : {M : Type 1} → statement M
 write-header-spec =
