@@ -3,9 +3,10 @@ use mathlib.Core.Path.{refl}
 use Rattle.block.specs.Bytes.{allZero}
 use Rattle.block.specs.Check.{weights, checkOf}
 use Rattle.block.specs.Header.{headerNumber}
-use Rattle.block.specs.Block.{blockNumber}
+use Rattle.block.specs.Block.{blockNumber, secondsFrom}
 use Rattle.block.specs.Layout.{headerFront, blockFront}
 use Rattle.block.specs.Writing.{writeHeaderNumber, writeBlockNumber}
+use Rattle.block.specs.Book.{laterBlocks}
 use Rattle.block.specs.Values.{HeaderValues, BlockValues, WriterValues, Values}
 
 header : HeaderValues
@@ -31,7 +32,7 @@ header =
     }
 
 block : BlockValues
-unfolding weights checkOf allZero blockNumber blockFront
+unfolding weights checkOf allZero blockNumber blockFront secondsFrom laterBlocks
 block =
     record {
       fields = refl;
@@ -43,6 +44,9 @@ block =
       due-none = refl;
       last-of-4 = refl;
       last-of-5 = refl;
+      in-turn = refl;
+      short-block = refl;
+      after-last = refl;
       short = refl;
       wrong-check = refl;
       wrong-number = refl;

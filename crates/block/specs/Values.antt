@@ -8,10 +8,10 @@ use Rattle.codec.specs.Little.{le4}
 use Rattle.block.specs.Bytes.{zeros}
 use Rattle.block.specs.Check.{checkOf}
 use Rattle.block.specs.Header.{name, headerNumber}
-use Rattle.block.specs.Block.{dueIn, blockNumber, secondOf}
+use Rattle.block.specs.Block.{dueIn, blockNumber, secondOf, secondsFrom}
 use Rattle.block.specs.Layout.{closed, headerBytes, blockBytes}
 use Rattle.block.specs.Writing.{writeHeaderNumber, writeBlockNumber}
-use Rattle.block.specs.Book.{lastBlock}
+use Rattle.block.specs.Book.{lastBlock, blocksOf}
 
 -- a header of these 504 bytes between 'RLIW' and the check
 abbrev pub header : List ℕ → List ℕ
@@ -56,6 +56,10 @@ pub record BlockValues : Type 0 where
   pub due-none : dueIn 4 2 ≡ 0
   pub last-of-4 : lastBlock 4 ≡ 1
   pub last-of-5 : lastBlock 5 ≡ 2
+  -- seconds in turn; "12 for a short block .. 21 for bytes after the last"
+  pub in-turn : secondsFrom (zeros 16 ++ (replicate 108 1 ++ (replicate 108 2 ++ zeros 280))) 0 2 ≡ replicate 108 1 ∷ replicate 108 2 ∷ []
+  pub short-block : blocksOf 1 [] .number ≡ 12
+  pub after-last : blocksOf 1 (blockBytes 1 (zeros 108) ++ (0 ∷ [])) .number ≡ 21
   -- 12, 13, 19, 20, 18 in order: each block has the later faults too
   pub short : blockNumber (zeros 511) 1 1 ≡ 12
   pub wrong-check : blockNumber (zeros 512) 1 1 ≡ 13
