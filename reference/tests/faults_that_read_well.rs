@@ -1,73 +1,98 @@
-//! Document 01's five "faults that read well": for each a small input, what is given on it, and what the fault gives.
+//! Document 01's five "faults that read well": for each a small input, the row given on it, and the row that the fault
+//! gives, worked out from the reference's own parts with the one step done wrongly.
 
 mod full_case;
 
 use full_case::full_case;
-use reference::line::{row_lines, second_line};
-use reference::maker::book_bytes;
-use reference::program::output_of;
+use reference::book::Book;
+use reference::maker::{second_bytes, Second};
+use reference::plant::{Plant, Row};
+use reference::power::{Limits, GRAINS};
 use reference::record::Record;
+use reference::sharing;
 
-fn lines(owner: u8, seconds: &[[Record; 3]]) -> Vec<String> {
-    let text = output_of(&book_bytes(owner, seconds), second_line);
-    text.lines().map(str::to_string).collect()
+fn alone(unit: Record) -> Second {
+    [unit, Record::default(), Record::default()]
 }
 
-fn alone(unit: Record) -> [Record; 3] {
-    [unit, Record::default(), Record::default()]
+/// The rows of the last of these seconds.
+fn rows(owner: u8, seconds: &[Second]) -> [Row; 3] {
+    let mut book = Book::default();
+    let mut rows = None;
+    for second in seconds {
+        rows = Some(book.second(owner, &second_bytes(second)).expect("an accepted second"));
+    }
+    rows.expect("a second")
+}
+
+/// The row of a plant's next second.
+fn next(plant: &mut Plant, record: &Record) -> Row {
+    let accepted = plant.consider(&record.write()).expect("an accepted second");
+    plant.second(accepted, record.measured as i64, record.working_point as i64)
+}
+
+fn shares(row: &Row) -> [i64; 3] {
+    row.kinds.map(|kind| kind.share)
+}
+
+fn actuals(row: &Row) -> [i64; 3] {
+    row.kinds.map(|kind| kind.actual)
 }
 
 /// Tolerances 5 and 5, error 1. Each share alone is a half: rounded to the nearest 1 and 1, rounded down 0 and 0;
 /// either way the plant's kW no longer add up.
 #[test]
 fn rounding_each_share_alone() {
+    let error = 1;
     let unit = Record {
-        measured: 1,
+        measured: error as i32,
         fcr_held: 100,
         afrr_held_up: 100,
         status: 3,
         ..Record::default()
     };
-    let given = lines(0, &[alone(unit)]);
-    assert_eq!(given[0], "0 U 1 0 0 0 A 0 0 0 1 B 0 0 0 0");
-    let nearest = (1 * 5 + 5) / 10;
-    let down = 1 * 5 / 10;
-    for share in [nearest, down] {
-        let fault = format!("0 U {} {} 0 0 A 0 0 0 {} B 0 0 0 0", share, share, 2 * share);
-        assert_ne!(given[0], fault);
-    }
+    let [given, _, _] = rows(0, &[alone(unit)]);
+    assert_eq!(shares(&given), [1, 0, 0]);
+    let tolerances = given.kinds.map(|kind| kind.band.high - kind.setpoint);
+    let total: i64 = tolerances.iter().sum();
+    let nearest = tolerances.map(|tolerance| (2 * error * tolerance + total) / (2 * total));
+    let down = tolerances.map(|tolerance| error * tolerance / total);
+    assert_eq!(nearest, [1, 1, 0]);
+    assert_eq!(down, [0, 0, 0]);
 }
 
 /// The full case: error 31, bands -120 to 0 around -100 and -50 to 50 around 0. With the widths 120 and 100 as
-/// weights FCR would get 17 and aFRR 14.
+/// weights FCR gets 17 and aFRR 14.
 #[test]
 fn weighting_both_directions_tolerances() {
-    let given = lines(2, &[full_case()]);
-    assert_eq!(given[0], "0 U -79 10 0 0 A -79 0 0 0 B 0 30 0 0");
-    let (fcr, afrr) = (31 * 120 / 220 + 1, 31 * 100 / 220);
-    assert_eq!((fcr, afrr, fcr + afrr), (17, 14, 31));
-    let fault = format!("0 U {} {} 0 0 A {} 0 0 0 B 0 {} 0 0", fcr - 100, afrr, fcr - 100, 20 + afrr);
-    assert_ne!(given[0], fault);
+    let [given, _, _] = rows(2, &[full_case()]);
+    assert_eq!(shares(&given), [21, 10, 0]);
+    let widths = given.kinds.map(|kind| kind.band.high - kind.band.low);
+    let error = shares(&given).iter().sum();
+    assert_eq!(sharing::shares(error, widths, [true, true, false]), [17, 14, 0]);
 }
 
-/// The full case: with 4,931 kW for both pools A would get -69 and B -49, the unit's error twice.
+/// The full case: with 4,931 kW for both pools A gets -69 and B -49, the unit's error twice.
 #[test]
 fn passing_the_units_measured_value_to_both_pools() {
-    let given = lines(2, &[full_case()]);
-    let (a, b) = (4931 - 5000, 200 + 4931 - (180 + 5000));
-    let fault = format!("0 U -79 10 0 0 A {} 0 0 0 B 0 {} 0 0", a, b);
-    assert_eq!(fault, "0 U -79 10 0 0 A -69 0 0 0 B 0 -49 0 0");
-    assert_ne!(given[0], fault);
-    assert_eq!(given[1], "sum A -79 B 30 open 0 due -49");
-    assert_ne!(a + b, -49);
+    let [unit, a, b] = full_case();
+    let [_, given_a, given_b] = rows(2, &[full_case()]);
+    assert_eq!((actuals(&given_a), actuals(&given_b)), ([-79, 0, 0], [0, 30, 0]));
+    let with_the_unit = |pool: Record| Record {
+        measured: pool.measured + unit.measured,
+        working_point: pool.working_point + unit.working_point,
+        ..pool
+    };
+    let fault_a = next(&mut Plant::default(), &with_the_unit(a));
+    let fault_b = next(&mut Plant::default(), &with_the_unit(b));
+    assert_eq!((actuals(&fault_a), actuals(&fault_b)), ([-69, 0, 0], [0, -49, 0]));
 }
 
 /// A call of 9,000 kW at 0, one of -100 kW at 10, where the signal gives 100. The old ramp counts on: -120 to 10,800,
 /// so an error of 107 goes to mFRR. Without the leftover the band is -120 to 100, and FCR alone has tolerance: 50.
 #[test]
 fn dropping_a_leftover_when_the_new_call_arrives() {
-    let mut seconds = Vec::new();
-    for now in 0..=10 {
+    let record = |now: i32| {
         let mut unit = Record {
             fcr_held: 1_000,
             measured: 10 * now,
@@ -81,19 +106,26 @@ fn dropping_a_leftover_when_the_new_call_arrives() {
             unit.measured += 107;
             (unit.call, unit.mfrr_target, unit.delivery_end) = (1, -100, 1_800);
         }
-        seconds.push(alone(unit));
+        unit
+    };
+    let mut plant = Plant::default();
+    for now in 0..10 {
+        next(&mut plant, &record(now));
     }
-    let rows = output_of(&book_bytes(0, &seconds), row_lines);
-    let at_ten = rows.lines().find(|line| line.starts_with("10 U")).expect("second 10");
-    assert_eq!(at_ten, "10 U 0 -50 50 0 0 0 0 0 0 0 100 -120 10800 107 207 0");
-    let given = lines(0, &seconds);
-    assert_eq!(given[10], "10 U 0 0 207 0 A 0 0 0 207 B 0 0 0 0");
-    let fault = "10 U 107 0 100 0 A 0 0 0 207 B 0 0 0 0";
-    assert_ne!(given[10], fault);
+    let given = next(&mut plant.clone(), &record(10));
+    assert_eq!((given.kinds[2].band.low, given.kinds[2].band.high), (-120, 10_800));
+    assert_eq!(actuals(&given), [0, 0, 207]);
+
+    let mut accepted = plant.consider(&record(10).write()).expect("a free place");
+    accepted.called.as_mut().expect("a call").leftovers.clear();
+    let fault = plant.second(accepted, record(10).measured as i64, 0);
+    assert_eq!((fault.kinds[2].band.low, fault.kinds[2].band.high), (-120, 100));
+    assert_eq!(actuals(&fault), [107, 0, 100]);
 }
 
 /// aFRR held up 10,000, setpoint 10,000 from second 0: at 285 the lower limit is 256 × 10,000 / 270 = 9,481.48,
-/// published 9,482. Rounded each second it would be 256 × 38, cut to 9,500, or 256 × 37 = 9,472.
+/// published 9,482. Rounded inward each second it would be 256 × 38, at most 9,500; rounded down or to the nearest
+/// 256 × 37 = 9,472.
 #[test]
 fn rounding_the_carried_afrr_limit_each_second() {
     let unit = Record {
@@ -103,14 +135,28 @@ fn rounding_the_carried_afrr_limit_each_second() {
         status: 2,
         ..Record::default()
     };
-    let seconds: Vec<_> = (0..286).map(|_| alone(unit)).collect();
-    let rows = output_of(&book_bytes(0, &seconds), row_lines);
-    let given = rows.lines().find(|line| line.starts_with("285 U")).expect("second 285");
-    assert_eq!(given, "285 U 0 0 0 0 0 10000 9482 10500 0 10000 0 0 0 0 0 0");
-    let inward = (256 * 38).min(9_500);
-    let down = (256 * 37).min(9_500);
-    let nearest = (256 * 37).min(9_500);
-    for low in [inward, down, nearest] {
-        assert_ne!(given, format!("285 U 0 0 0 0 0 10000 {} 10500 0 10000 0 0 0 0 0 0", low));
-    }
+    let low_at_285 = |carried: fn(Limits) -> Limits| {
+        let mut plant = Plant::default();
+        for _ in 0..=285 {
+            next(&mut plant, &unit);
+            plant.afrr_limits = carried(plant.afrr_limits);
+        }
+        plant.afrr_limits.published().low
+    };
+    let inward = |limits: Limits| Limits {
+        low: limits.published().low * GRAINS,
+        high: limits.published().high * GRAINS,
+    };
+    let down = |limits: Limits| Limits {
+        low: limits.low.div_euclid(GRAINS) * GRAINS,
+        high: limits.high.div_euclid(GRAINS) * GRAINS,
+    };
+    let nearest = |limits: Limits| Limits {
+        low: (limits.low + GRAINS / 2).div_euclid(GRAINS) * GRAINS,
+        high: (limits.high + GRAINS / 2).div_euclid(GRAINS) * GRAINS,
+    };
+    assert_eq!(low_at_285(|limits| limits), 9_482);
+    assert_eq!(low_at_285(inward), 9_500);
+    assert_eq!(low_at_285(down), 9_472);
+    assert_eq!(low_at_285(nearest), 9_472);
 }

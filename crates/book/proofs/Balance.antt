@@ -10,12 +10,12 @@ use Rattle.row.specs.declared.KindRow.{KindRow}
 use Rattle.row.specs.declared.Row.{Row}
 use Rattle.record.specs.declared.Record.{Record}
 use Rattle.plant.specs.Rows.{sharedDifference}
-use Rattle.plant.proofs.Run.{record-number, row-holds}
-use Rattle.book.specs.declared.Book.{Book}
-use Rattle.book.specs.Seconds.{BookSecond, History, unitBytes, aBytes, bBytes, pastOf, difference, dueOf}
-use Rattle.book.specs.Rows.{valueIf, valuesOf, others, soldByA, soldByB, unitPoint, unitRowAt, aRowAt, bRowAt}
-use Rattle.book.specs.State.{actualsOf, openOf}
-use Rattle.book.proofs.Past.{Follows, Taken}
+use Rattle.book.specs.Seconds.{BookSecond, History, unitBytes, aBytes, bBytes, difference, dueOf}
+use Rattle.book.specs.Refusals.{Accepted}
+use Rattle.book.specs.Rows.{valueIf, valuesOf, others, soldByA, soldByB, unitRowAt, poolRowAt, aRowAt, bRowAt}
+use Rattle.book.specs.Sums.{actualsOf, openOf}
+use Rattle.book.proofs.Past.{Cleared}
+use Rattle.book.proofs.Holds.{rows-hold}
 
 -- ---- what one provider sells and what the other sells is all
 
@@ -120,18 +120,15 @@ three-plants u a b x y z v t p q r s =
     ∙ (λ i. (ap (λ (n : ℤ). n +ℤ u .«open» .0) p ∙ q ∙ unit-plain (x .measured .0) (x .«working_point» .0)) i +ℤ (difference y +ℤ difference z))
 
 pub second-balance :
-    (k : Book) (h : History) (f : Follows k h) (s : BookSecond) →
-    Taken k h f s →
+    (h : History) (s : BookSecond) →
+    Accepted h →
+    Cleared h s →
     actualsOf (aRowAt h s) +ℤ actualsOf (bRowAt h s) +ℤ openOf (unitRowAt h s) (aRowAt h s) (bRowAt h s) ≡ dueOf (s .bytes)
-unfolding dueOf unitRowAt aRowAt bRowAt
-second-balance k h f s t =
-    let x = recordOf (unitBytes (s .bytes)) in
-    let y = recordOf (aBytes (s .bytes)) in
-    let z = recordOf (bBytes (s .bytes)) in
+unfolding dueOf unitRowAt poolRowAt
+second-balance h s a c =
+    let r = rows-hold h s a c in
     let v = valuesOf (soldByA (s .owner)) (unitRowAt h s) in
     let o = valuesOf (soldByB (s .owner)) (unitRowAt h s) in
-    let p = unitPoint (s .bytes) in
-    let u = row-holds (pastOf unitBytes h) (f .unit-accepted) x (record-number (pastOf unitBytes h) (unitBytes (s .bytes)) (t .unit-number)) (pos 0) (pos 0) in
-    let a = row-holds (pastOf aBytes h) (f .a-accepted) y (record-number (pastOf aBytes h) (aBytes (s .bytes)) (t .a-number)) (p +ℤ v) p in
-    let b = row-holds (pastOf bBytes h) (f .b-accepted) z (record-number (pastOf bBytes h) (bBytes (s .bytes)) (t .b-number)) (p +ℤ o) p in
-    three-plants (unitRowAt h s) (aRowAt h s) (bRowAt h s) x y z v o (both (bitsOf (s .owner)) (unitRowAt h s)) (u .balance) (a .balance) (b .balance)
+    three-plants (unitRowAt h s) (aRowAt h s) (bRowAt h s)
+    (recordOf (unitBytes (s .bytes))) (recordOf (aBytes (s .bytes))) (recordOf (bBytes (s .bytes)))
+    v o (both (bitsOf (s .owner)) (unitRowAt h s)) (r .unit .balance) (r .a .balance) (r .b .balance)

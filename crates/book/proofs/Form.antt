@@ -12,9 +12,10 @@ use Rattle.record.specs.Record.{size, bookSize}
 use Rattle.book.specs.declared.Book.{Book}
 use Rattle.book.specs.declared.BookAnswer.the-variants.{Refused}
 use Rattle.book.specs.declared.BookStep.{BookStep}
-use Rattle.book.specs.Seconds.{unitBytes, aBytes, bBytes}
-use Rattle.book.specs.Rows.{formRules, formNumber}
-use Rattle.book.specs.State.{secondOf, stepBy, stepIn, PartsOf, PlantsStepped, Ready, Stepped}
+use Rattle.book.specs.Seconds.{History, unitBytes, aBytes, bBytes}
+use Rattle.book.specs.Refusals.{formRules, formNumber, Accepted}
+use Rattle.book.specs.State.{secondOf, stateOf, OverPast, stepBy, stepIn, PartsOf, PlantsStepped, Ready, Stepped}
+use Rattle.book.proofs.Past.{over-past}
 
 pub whole : (o : ℕ) (s : List ℕ) → formNumber (secondOf o s) ≡ 0 → length s ≡ bookSize
 unfolding formNumber
@@ -39,10 +40,15 @@ module _ (k : Book) (o : ℕ) (s : List ℕ) where
   by-refusal zero given h = absurd (h refl)
   by-refusal (suc n) given h = refl
 
+  by-past : {r : BookStep} → r ≡ stepIn k (secondOf o s) → (h : History) → Accepted h → k ≡ stateOf h → OverPast h (secondOf o s) r
+  by-past e h a p = rw (e, p) (over-past h a (secondOf o s))
+
   pub refused : {n : ℕ} → n ≡ formNumber (secondOf o s) → (n ≡ 0 → ⊥) → Ready k → Stepped k (secondOf o s) (record { answer = Refused n; book = k })
   unfolding stepIn
-  refused {n} e h r = record { is = rw (← e) (by-refusal n _ h); ready = r }
+  refused {n} e h r =
+      let is : record { answer = Refused n; book = k } ≡ stepIn k (secondOf o s) = rw (← e) (by-refusal n _ h) in
+      record { is = is; past = by-past is; ready = r }
 
   pub stepped : {u a b : List ℕ} (p : BookStep) → formNumber (secondOf o s) ≡ 0 → PartsOf s u a b → PlantsStepped k o u a b p → Stepped k (secondOf o s) p
   unfolding stepIn
-  stepped p e parts q = record { is = rw e (q .is s parts); ready = q .ready }
+  stepped p e parts q = let is : p ≡ stepIn k (secondOf o s) = rw e (q .is s parts) in record { is = is; past = by-past is; ready = q .ready }

@@ -1,7 +1,9 @@
 pub mod Sizes
+pub mod Past
+pub mod Holds
+pub mod Balance
+pub mod Claims
 pub mod Plants
 pub mod Form
-pub mod Past
-pub mod Balance
-pub mod Claim
 pub mod Listed
+pub mod Values

@@ -11,9 +11,9 @@ use lib.Seq.{drop-cons, drop-drop, take-all, take-append-seam, drop-append-seam,
 use Rattle.book.specs.Seconds.{BookSecond}
 use Rattle.book.specs.declared.Book.{Book}
 use Rattle.book.specs.State.{fresh, stepIn}
-use Rattle.book.specs.Run.{after}
-use Rattle.book.specs.List.{split, secondsIn, written, Ran}
-use Rattle.book.proofs.Claim.{claim}
+use Rattle.book.specs.Run.{bookAfter}
+use Rattle.book.specs.List.{split, listedIn, written, ListRan}
+use Rattle.book.proofs.Claims.{claims}
 
 split-same : (n m : ℕ) (s : List ℕ) → length s ≤ n → length s ≤ m → split n s ≡ split m s
 unfolding split
@@ -28,27 +28,27 @@ split-same (suc n) (suc m) (o ∷ (k ∷ s)) g h =
     ap (λ (ss : List BookSecond). record { owner = o; bytes = take k s } ∷ ss)
     (split-same n m (drop k s) (omega (arith, length-drop k s)) (omega (arith, length-drop k s)))
 
-one : (o : ℕ) → secondsIn (o ∷ []) ≡ record { owner = o; bytes = [] } ∷ []
-unfolding secondsIn split
+one : (o : ℕ) → listedIn (o ∷ []) ≡ record { owner = o; bytes = [] } ∷ []
+unfolding listedIn split
 one o = refl
 
-more : (o k : ℕ) (s : List ℕ) → secondsIn (o ∷ (k ∷ s)) ≡ record { owner = o; bytes = take k s } ∷ secondsIn (drop k s)
-unfolding secondsIn split
+more : (o k : ℕ) (s : List ℕ) → listedIn (o ∷ (k ∷ s)) ≡ record { owner = o; bytes = take k s } ∷ listedIn (drop k s)
+unfolding listedIn split
 more o k s =
     ap (λ (ss : List BookSecond). record { owner = o; bytes = take k s } ∷ ss)
     (split-same (suc (length s)) (length (drop k s)) (drop k s) (omega (arith, length-drop k s)) (omega arith))
 
-pub seconds-none : (l : List ℕ) (i : ℕ) → length l ≤ i → secondsIn (drop i l) ≡ []
-unfolding secondsIn split
+pub seconds-none : (l : List ℕ) (i : ℕ) → length l ≤ i → listedIn (drop i l) ≡ []
+unfolding listedIn split
 seconds-none l i h = rw (drop-of-length-le l h)
 
 -- what is written is read back: so a claim about every slice is one about every list of seconds
-pub read-back : (ss : List BookSecond) → secondsIn (written ss) ≡ ss
+pub read-back : (ss : List BookSecond) → listedIn (written ss) ≡ ss
 unfolding written
 read-back [] = seconds-none [] 0 (omega arith)
 read-back (s ∷ ss) =
     more (s .owner) (length (s .bytes)) (s .bytes ++ written ss)
-    ∙ (λ i. record { owner = s .owner; bytes = take-append-seam (s .bytes) (written ss) i } ∷ secondsIn (drop-append-seam (s .bytes) (written ss) i))
+    ∙ (λ i. record { owner = s .owner; bytes = take-append-seam (s .bytes) (written ss) i } ∷ listedIn (drop-append-seam (s .bytes) (written ss) i))
     ∙ ap (λ (t : List BookSecond). s ∷ t) (read-back ss)
 
 -- a part of at most k bytes from j on, and what is after it
@@ -73,7 +73,7 @@ end-is i k n e g q = omega arith
 -- the second at i: its bytes from f to e
 pub seconds-at : (l : List ℕ) (i f e : ℕ) → i < length l → f ≡ i + min 2 (length l - i)
     → e ≡ i + min 2 (length l - i) + min (getD l (i + 1) 0) (length l - (i + 2))
-    → secondsIn (drop i l) ≡ record { owner = getD l i 0; bytes = take (e - f) (drop f l) } ∷ secondsIn (drop e l)
+    → listedIn (drop i l) ≡ record { owner = getD l i 0; bytes = take (e - f) (drop f l) } ∷ listedIn (drop e l)
 seconds-at l i f e h p q = elim (decLe (i + 2) (length l)) [ yes g ↦ two g | no g ↦ last (lt-of-not-le g) ]
   where
     k : ℕ
@@ -86,30 +86,30 @@ seconds-at l i f e h p q = elim (decLe (i + 2) (length l)) [ yes g ↦ two g | n
     q′ = q ∙ ap (λ (n : ℕ). i + min 2 (length l - i) + min (getD l n 0) (length l - (i + 2))) (add-one i)
 
     -- a lone owner byte
-    last : length l < i + 2 → secondsIn (drop i l) ≡ record { owner = getD l i 0; bytes = take (e - f) (drop f l) } ∷ secondsIn (drop e l)
+    last : length l < i + 2 → listedIn (drop i l) ≡ record { owner = getD l i 0; bytes = take (e - f) (drop f l) } ∷ listedIn (drop e l)
     last g =
         let b : take (e - f) (drop f l) ≡ [] = rw (drop-of-length-le l {i = f} (omega arith)) (take-nil (e - f)) in
         let t = seconds-none l e (omega arith) in
         rw (drop-cons l i 0 h, drop-of-length-le l {i = suc i} (omega arith))
         (one (getD l i 0) ∙ (λ j. record { owner = getD l i 0; bytes = sym b j } ∷ sym t j))
 
-    two : i + 2 ≤ length l → secondsIn (drop i l) ≡ record { owner = getD l i 0; bytes = take (e - f) (drop f l) } ∷ secondsIn (drop e l)
+    two : i + 2 ≤ length l → listedIn (drop i l) ≡ record { owner = getD l i 0; bytes = take (e - f) (drop f l) } ∷ listedIn (drop e l)
     two g =
         let z : f ≡ suc (suc i) = omega arith in
         let E : e ≡ suc (suc i) + min k (length D) = end-is i k (length l) e g q′ ∙ ap (λ (n : ℕ). suc (suc i) + min k n) (sym (length-drop (suc (suc i)) l)) in
         let w = part-at l (suc (suc i)) k e E in
         rw (z, drop-cons l i 0 h, drop-cons l (suc i) 0 (omega arith))
-        (more (getD l i 0) k D ∙ (λ j. record { owner = getD l i 0; bytes = w .0 j } ∷ secondsIn (w .1 j)))
+        (more (getD l i 0) k D ∙ (λ j. record { owner = getD l i 0; bytes = w .0 j } ∷ listedIn (w .1 j)))
 
 -- ---- the run
 
-pub after-cons : (k : Book) (s : BookSecond) (ss : List BookSecond) → after k (s ∷ ss) ≡ after (stepIn k s .book) ss
-unfolding after
+pub after-cons : (k : Book) (s : BookSecond) (ss : List BookSecond) → bookAfter k (s ∷ ss) ≡ bookAfter (stepIn k s .book) ss
+unfolding bookAfter
 after-cons k s ss = refl
 
-pub after-none : (k : Book) → after k [] ≡ k
-unfolding after
+pub after-none : (k : Book) → bookAfter k [] ≡ k
+unfolding bookAfter
 after-none k = refl
 
-pub ran : (ss : List BookSecond) (r : Book) → after fresh ss ≡ r → Ran ss r
-ran ss r q = record { is = sym q; claim = claim ss }
+pub ran : (ss : List BookSecond) (r : Book) → bookAfter fresh ss ≡ r → ListRan ss r
+ran ss r q = record { is = sym q; claims = claims ss }

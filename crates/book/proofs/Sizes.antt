@@ -1,5 +1,5 @@
 -- A second's figures and their sums are small enough. Assumes nothing.
-use mathlib.Core.Bool.{Bool}
+use mathlib.Core.Bool.{Bool, true, false}
 use Prim.Native.Nat.{ℕ, _+_, _*_, _≤_, zero-le}
 use native.Mathlib.Nat.{mul-le-mul-right}
 use native.Mathlib.Omega.{arith}
@@ -7,20 +7,23 @@ use lib.IntN.{ℤ, pos, _+ℤ_, +ℤ-idr}
 use Rattle.numbers.specs.Bounds.{Within}
 use mir.Syntax.{w32, w64}
 use mir.Val.{SFits}
-use Rattle.numbers.proofs.Fit.{fit, within-le, within-lit, within-cond}
+use Rattle.numbers.proofs.Fit.{fit, within-le}
 use Rattle.power.specs.Units.{mostReserve}
 use Rattle.record.specs.declared.KindBits.{KindBits}
 use Rattle.record.specs.declared.Record.{Record}
 use Rattle.row.specs.declared.KindRow.{KindRow}
 use Rattle.row.specs.declared.Row.{Row}
 use Rattle.row.specs.declared.sums.Sums.{Sums}
+use Rattle.row.specs.Fits.{Sums64}
 use Rattle.record.specs.Record.{mostSeconds}
 use Rattle.plant.specs.Refusals.{mostPower}
+use Rattle.plant.specs.Rows.{sharedDifference}
 use Rattle.sharing.specs.Sizes.{SizedRow}
 use Rattle.sharing.proofs.Sizes.{less, more}
 use Rattle.book.specs.Seconds.{difference}
 use Rattle.book.specs.Rows.{valueIf, valuesOf}
-use Rattle.book.specs.State.{mostSummand, mostAtUnit, mostAtPool, mostValues, mostInSecond, kwSeconds, actualsOf, openOf, sumsWith, SumsReady, InRange, Summed}
+use Rattle.book.specs.Sums.{kwSeconds, actualsOf, openOf}
+use Rattle.book.specs.State.{mostSummand, mostAtUnit, mostAtPool, mostValues, mostInSecond, sumsWith, SumsReady, InRange, Summed}
 
 three : (B C : ℕ) (x y z : ℤ) → 3 * B ≤ C → Within B x → Within B y → Within B z → Within C (x +ℤ (y +ℤ z))
 three B C x y z h p q r = more B (2 * B) C x (y +ℤ z) (omega arith) p (more B B (2 * B) y z (omega arith) q r)
@@ -35,7 +38,8 @@ abbrev pub mostActual : ℕ
 mostActual = mostAtUnit + 4 * mostReserve
 
 value : (t : Bool) (k : KindRow) → Within mostActual (k .actual .0) → Within mostActual (valueIf t k)
-value t k h = within-cond mostActual t _ _ h (within-lit mostActual _ tt)
+value true k h = h
+value false k h = search fit
 
 module _ (b : KindBits) (r : Row) (s : SizedRow mostAtUnit r) where
   pub fcr-value : Within mostActual (valueIf (b .fcr) (r .fcr))
@@ -51,6 +55,13 @@ module _ (b : KindBits) (r : Row) (s : SizedRow mostAtUnit r) where
   unfolding valuesOf
   values-small = three mostActual mostValues _ _ _ (omega arith) fcr-value afrr-value mfrr-value
 
+-- measured - working point of a record as shared, where sharing adds m and w
+pub shared-within : (M W D : ℕ) (x : Record) (m w : ℤ) → mostPower + M + (mostPower + W) ≤ D → InRange x → Within M m → Within W w → Within D (sharedDifference x m w)
+shared-within M W D x m w h r p q =
+    less (mostPower + M) (mostPower + W) D _ _ h
+    (more mostPower M (mostPower + M) _ m (omega arith) (r .measured) p)
+    (more mostPower W (mostPower + W) _ w (omega arith) (r .working-point) q)
+
 -- ---- what is added to the sums
 
 pub actuals-small : (r : Row) → SizedRow mostAtPool r → Within mostInSecond (actualsOf r)
@@ -62,11 +73,8 @@ pub open-small : (u a b : Row) → SizedRow mostAtUnit u → SizedRow mostAtPool
 open-small u a b p q r =
     three mostAtPool mostInSecond _ _ _ (omega arith) (within-le mostAtUnit mostAtPool _ (p .open-within) tt) (q .open-within) (r .open-within)
 
-difference-small : (x : Record) → InRange x → Within mostAtUnit (difference x)
+pub difference-small : (x : Record) → InRange x → Within mostAtUnit (difference x)
 difference-small x r = less mostPower mostPower mostAtUnit _ _ (omega arith) (r .measured) (r .working-point)
-
-pub due-small : (u a b : Record) → InRange u → InRange a → InRange b → Within mostInSecond (difference u +ℤ (difference a +ℤ difference b))
-due-small u a b p q r = three mostAtUnit mostInSecond _ _ _ (omega arith) (difference-small u p) (difference-small a q) (difference-small b r)
 
 -- ---- the sums
 
@@ -82,6 +90,12 @@ sum-fits x y p q = search fit
 
 longer : (n m : ℕ) (z : ℤ) → n ≤ m → Within (n * mostInSecond) z → Within (m * mostInSecond) z
 longer n m z h p = record { within = omega (arith, p .within, mul-le-mul-right mostInSecond h) }
+
+pub sums-fit : (n : ℕ) (q : Sums) → n ≤ mostSeconds → SumsReady n q → Sums64 q
+sums-fit n q h r = record { a = fits (r .a); b = fits (r .b); «open» = fits (r .«open»); due = fits (r .due) }
+  where
+    fits : {z : ℤ} → Within (n * mostInSecond) z → SFits w64 z
+    fits {z} w = let l = longer n mostSeconds z h w in search fit
 
 pub sums-longer : (n m : ℕ) (q : Sums) → n ≤ m → SumsReady n q → SumsReady m q
 sums-longer n m q h r =

@@ -1,6 +1,9 @@
 pub mod Seconds
+pub mod Refusals
 pub mod Rows
+pub mod Sums
 pub mod State
 pub mod Run
-pub mod Claim
+pub mod Claims
 pub mod List
+pub mod Values

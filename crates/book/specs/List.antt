@@ -6,8 +6,8 @@ use lib.ListN.{length, take, drop}
 use Rattle.book.specs.declared.Book.{Book}
 use Rattle.book.specs.Seconds.{BookSecond}
 use Rattle.book.specs.State.{fresh}
-use Rattle.book.specs.Run.{after}
-use Rattle.book.specs.Claim.{Claim}
+use Rattle.book.specs.Run.{bookAfter}
+use Rattle.book.specs.Claims.{Claims}
 
 unfoldable pub split : ℕ → List ℕ → List BookSecond
 split zero s = []
@@ -15,8 +15,8 @@ split (suc n) [] = []
 split (suc n) (o ∷ []) = record { owner = o; bytes = [] } ∷ []
 split (suc n) (o ∷ (k ∷ s)) = record { owner = o; bytes = take k s } ∷ split n (drop k s)
 
-unfoldable pub secondsIn : List ℕ → List BookSecond
-secondsIn s = split (length s) s
+unfoldable pub listedIn : List ℕ → List BookSecond
+listedIn s = split (length s) s
 
 -- every list of seconds, of up to 255 bytes each, is written so
 unfoldable pub written : List BookSecond → List ℕ
@@ -24,6 +24,6 @@ written [] = []
 written (s ∷ ss) = s .owner ∷ (length (s .bytes) ∷ (s .bytes ++ written ss))
 
 -- what running the list gives: the book after it, of which the whole claim holds
-pub record Ran (ss : List BookSecond) (r : Book) : Type 0 where
-  pub is : r ≡ after fresh ss
-  pub claim : Claim ss
+pub record ListRan (ss : List BookSecond) (r : Book) : Type 0 where
+  pub is : r ≡ bookAfter fresh ss
+  pub claims : Claims ss

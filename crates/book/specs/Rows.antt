@@ -1,21 +1,19 @@
 -- A book second over the past: the rows of U, A and B, or the first refusal number that applies (01, "Book second").
 use Prim.Native.Nat.{ℕ, zero, suc}
 use mathlib.Core.Bool.{Bool, not, cond}
-use mathlib.Core.List.{List, [], _∷_, _++_}
-use lib.Dec.{ltb}
+use mathlib.Core.List.{List, _++_}
 use lib.IntN.{ℤ, pos, _+ℤ_}
-use lib.ListN.{length}
-use Rattle.numbers.specs.Rules.{Rule, refuse, first, differ, orElse}
 use Rattle.record.specs.declared.KindBits.{KindBits}
-use Rattle.record.specs.Record.{bookSize, allKinds, recordOf, bitsOf}
+use Rattle.record.specs.Record.{recordOf, bitsOf}
 use Rattle.row.specs.declared.KindRow.{KindRow}
 use Rattle.row.specs.declared.Row.{Row}
 use Rattle.plant.specs.Rows as plant
 use Rattle.book.specs.declared.BookAnswer.{BookAnswer}
 use Rattle.book.specs.declared.BookAnswer.the-variants.{Rows, Refused, RefusedBy}
 use Rattle.book.specs.declared.Plant.{Plant}
-use Rattle.book.specs.declared.Plant.the-variants.{Unit, A, B}
+use Rattle.book.specs.declared.Plant.the-variants.{U, A, B}
 use Rattle.book.specs.Seconds.{BookSecond, History, unitBytes, aBytes, bBytes, pastOf}
+use Rattle.book.specs.Refusals.{formNumber, unitNumber, aNumber, bNumber}
 
 -- ---- the unit's values
 
@@ -45,51 +43,40 @@ unitRowAt h s = plant.rowAt (pastOf unitBytes h) (recordOf (unitBytes (s .bytes)
 abbrev pub unitPoint : List ℕ → ℤ
 unitPoint s = recordOf (unitBytes s) .«working_point» .0
 
--- "For sharing, the unit's working point is added to A's working point, and the unit's working point plus A's unit values to A's measured."
-unfoldable pub aRowAt : History → BookSecond → Row
-aRowAt h s =
-    plant.rowAt
-    (pastOf aBytes h)
-    (recordOf (aBytes (s .bytes)))
-    (unitPoint (s .bytes) +ℤ valuesOf (soldByA (s .owner)) (unitRowAt h s))
-    (unitPoint (s .bytes))
+-- ---- a pool
 
--- "B likewise."
-unfoldable pub bRowAt : History → BookSecond → Row
-bRowAt h s =
-    plant.rowAt
-    (pastOf bBytes h)
-    (recordOf (bBytes (s .bytes)))
-    (unitPoint (s .bytes) +ℤ valuesOf (soldByB (s .owner)) (unitRowAt h s))
-    (unitPoint (s .bytes))
+-- where its own record stands, and for an owner byte the kinds that it sells at U
+pub record Pool : Type 0 where
+  pub bytes : List ℕ → List ℕ
+  pub sold : ℕ → KindBits
 
--- ---- refusals
+abbrev pub poolA : Pool
+poolA = record { bytes = aBytes; sold = soldByA }
 
--- "a book second not of 108, gets 12 before all else. The book second then gives 16 for an owner above 7; neither names a plant."
-abbrev pub formRules : BookSecond → List Rule
-formRules s = refuse 12 (differ (length (s .bytes)) bookSize) ∷ refuse 16 (ltb allKinds (s .owner)) ∷ []
+abbrev pub poolB : Pool
+poolB = record { bytes = bBytes; sold = soldByB }
 
-unfoldable pub formNumber : BookSecond → ℕ
-formNumber s = first (formRules s)
+-- "For sharing, the unit's working point is added to A's working point, and the unit's working point plus A's unit values to A's measured. B
+-- likewise." Here u is the unit's row
+abbrev pub addedTo : Pool → BookSecond → Row → ℤ
+addedTo p s u = unitPoint (s .bytes) +ℤ valuesOf (p .sold (s .owner)) u
 
--- "Next it checks U, A, B wholly in that order"
-abbrev pub unitNumber : History → BookSecond → ℕ
-unitNumber h s = plant.numberAt (pastOf unitBytes h) (unitBytes (s .bytes))
+unfoldable pub poolRowAt : Pool → History → BookSecond → Row
+poolRowAt p h s =
+    plant.rowAt (pastOf (p .bytes) h) (recordOf (p .bytes (s .bytes))) (addedTo p s (unitRowAt h s)) (unitPoint (s .bytes))
 
-abbrev pub aNumber : History → BookSecond → ℕ
-aNumber h s = plant.numberAt (pastOf aBytes h) (aBytes (s .bytes))
+abbrev pub aRowAt : History → BookSecond → Row
+aRowAt h s = poolRowAt poolA h s
 
-abbrev pub bNumber : History → BookSecond → ℕ
-bNumber h s = plant.numberAt (pastOf bBytes h) (bBytes (s .bytes))
+abbrev pub bRowAt : History → BookSecond → Row
+bRowAt h s = poolRowAt poolB h s
 
--- the first number that applies, 0 where the second is accepted
-unfoldable pub numberAt : History → BookSecond → ℕ
-numberAt h s = orElse (formNumber s) (orElse (unitNumber h s) (orElse (aNumber h s) (bNumber h s)))
+-- ---- the answer
 
 -- "gives number and plant"
 abbrev pub answerBy : ℕ → ℕ → ℕ → ℕ → Row → Row → Row → BookAnswer
 answerBy (suc n) nu na nb u a b = Refused (suc n)
-answerBy zero (suc n) na nb u a b = RefusedBy Unit (suc n)
+answerBy zero (suc n) na nb u a b = RefusedBy U (suc n)
 answerBy zero zero (suc n) nb u a b = RefusedBy A (suc n)
 answerBy zero zero zero (suc n) u a b = RefusedBy B (suc n)
 answerBy zero zero zero zero u a b = Rows u a b
@@ -112,7 +99,7 @@ bookFigures u a b = plant.figuresOf u ++ (plant.figuresOf a ++ plant.figuresOf b
 -- what is said of second s after the past h
 abbrev pub saidBy : ℕ → ℕ → ℕ → ℕ → List ℤ → Said
 saidBy (suc n) nu na nb fs = refused (suc n)
-saidBy zero (suc n) na nb fs = refusedBy Unit (suc n)
+saidBy zero (suc n) na nb fs = refusedBy U (suc n)
 saidBy zero zero (suc n) nb fs = refusedBy A (suc n)
 saidBy zero zero zero (suc n) fs = refusedBy B (suc n)
 saidBy zero zero zero zero fs = figures fs
@@ -130,13 +117,3 @@ abbrev pub numberIn : BookAnswer → ℕ
 numberIn (Rows u a b) = 0
 numberIn (Refused n) = n
 numberIn (RefusedBy p n) = n
-
--- ---- the past
-
--- the accepted seconds after this one: a refusal "changes none"
-abbrev pub grownBy : ℕ → BookSecond → History → History
-grownBy zero s h = s ∷ h
-grownBy (suc n) s h = h
-
-unfoldable pub grown : History → BookSecond → History
-grown h s = grownBy (numberAt h s) s h

@@ -1,72 +1,86 @@
--- A book second from any book: the rules of specs/Rows.antt, on what the book holds.
+-- What a book holds after a past, and a book second from any book: the rules of specs/Refusals.antt and the rows of specs/Rows.antt, on what
+-- the book holds.
 use Prim.Native.Nat.{ℕ, zero, suc, _+_, _*_}
 use mathlib.Core.Path.{_≡_}
 use mathlib.Core.List.{List, []}
 use lib.IntN.{ℤ, pos, _+ℤ_}
-use Rattle.numbers.specs.Bounds.{Within}
 use lib.ListN.{length}
+use Rattle.numbers.specs.Bounds.{Within}
 use Rattle.record.specs.Record.{size, recordOf}
 use Rattle.record.specs.declared.Record.{Record}
 use Rattle.row.specs.declared.Row.{Row}
-use Rattle.row.specs.declared.sums.KwSeconds.{KwSeconds}
 use Rattle.row.specs.declared.sums.Sums.{Sums}
-use Rattle.row.specs.Row.{kindsOf, sumActuals}
+use Rattle.sharing.specs.Sizes.{SizedRow}
 use Rattle.plant.specs.declared.PlantAnswer.{PlantAnswer}
 use Rattle.plant.specs.declared.PlantAnswer.the-variants as plant-answer
+use Rattle.plant.specs.declared.PlantState.{PlantState}
 use Rattle.plant.specs.declared.PlantStep.{PlantStep}
-use Rattle.plant.specs.Rows as plant-rows
 use Rattle.plant.specs.State as plant
 use Rattle.plant.specs.State.{mostAdded}
 use Rattle.plant.specs.Refusals.{mostPower}
-use Rattle.sharing.specs.Sizes.{SizedRow}
 use Rattle.book.specs.declared.Book.{Book}
 use Rattle.book.specs.declared.BookAnswer.the-variants.{Rows, Refused, RefusedBy}
 use Rattle.book.specs.declared.BookStep.{BookStep}
 use Rattle.book.specs.declared.Plant.{Plant}
-use Rattle.book.specs.declared.Plant.the-variants.{Unit, A, B}
-use Rattle.book.specs.Seconds.{BookSecond, unitBytes, aBytes, bBytes, dueOf}
-use Rattle.book.specs.Rows.{valuesOf, soldByA, soldByB, unitPoint, formNumber}
+use Rattle.book.specs.declared.Plant.the-variants.{U, A, B}
+use Rattle.book.specs.Seconds.{BookSecond, History, unitBytes, aBytes, bBytes, pastOf, dueOf}
+use Rattle.book.specs.Refusals.{formNumber, numberAt, Accepted, grown}
+use Rattle.book.specs.Rows.{unitPoint, Pool, poolA, poolB, addedTo, answerAt, says, saidAt, numberIn}
+use Rattle.book.specs.Sums.{kwSeconds, actualsOf, openOf, sumsOf}
 
 -- an owner byte and bytes as a book second
 abbrev pub secondOf : ℕ → List ℕ → BookSecond
 secondOf o s = record { owner = o; bytes = s }
 
-abbrev pub kwSeconds : ℤ → KwSeconds
-kwSeconds n = record { 0 = n }
+-- ---- after a past
 
 -- "a fresh book: no second accepted, all setpoints and limits 0, every signal resting, no leftover, the kept sums 0"
 unfoldable pub fresh : Book
 fresh =
     record {
-      unit = plant-rows.stateOf [];
-      a = plant-rows.stateOf [];
-      b = plant-rows.stateOf [];
+      unit = plant.stateOf [];
+      a = plant.stateOf [];
+      b = plant.stateOf [];
       sums = record { a = kwSeconds (pos 0); b = kwSeconds (pos 0); «open» = kwSeconds (pos 0); due = kwSeconds (pos 0) };
     }
 
--- ---- what each plant answers
+-- after the past h: each plant's state is the one that its own accepted seconds leave, and the kept sums are the four
+unfoldable pub stateOf : History → Book
+stateOf h =
+    record {
+      unit = plant.stateOf (pastOf unitBytes h);
+      a = plant.stateOf (pastOf aBytes h);
+      b = plant.stateOf (pastOf bBytes h);
+      sums = sumsOf h;
+    }
+
+-- the step r of second s after the accepted seconds h: its answer is the one over them, and its book the one that they and, unless it is
+-- refused, this second leave
+pub record OverPast (h : History) (s : BookSecond) (r : BookStep) : Type 0 where
+  pub said : says (r .answer) ≡ saidAt h s
+  pub number : numberIn (r .answer) ≡ numberAt h s
+  pub answer : r .answer ≡ answerAt h s
+  pub book : r .book ≡ stateOf (grown h s)
+  pub stays : Accepted (grown h s)
+
+-- ---- any book: what each plant answers
 
 unfoldable pub unitIn : Book → BookSecond → PlantStep
 unitIn k s = plant.stepIn (k .unit) (unitBytes (s .bytes)) (pos 0) (pos 0)
 
--- where ru is the unit's row
-unfoldable pub aIn : Book → BookSecond → Row → PlantStep
-aIn k s ru =
-    plant.stepIn (k .a) (aBytes (s .bytes)) (unitPoint (s .bytes) +ℤ valuesOf (soldByA (s .owner)) ru) (unitPoint (s .bytes))
+-- a pool at the state st, where u is the unit's row
+unfoldable pub poolIn : Pool → PlantState → BookSecond → Row → PlantStep
+poolIn p st s u = plant.stepIn st (p .bytes (s .bytes)) (addedTo p s u) (unitPoint (s .bytes))
 
-unfoldable pub bIn : Book → BookSecond → Row → PlantStep
-bIn k s ru =
-    plant.stepIn (k .b) (bBytes (s .bytes)) (unitPoint (s .bytes) +ℤ valuesOf (soldByB (s .owner)) ru) (unitPoint (s .bytes))
+abbrev pub aIn : Book → BookSecond → Row → PlantStep
+aIn k s u = poolIn poolA (k .a) s u
 
--- ---- the kept sums
+abbrev pub bIn : Book → BookSecond → Row → PlantStep
+bIn k s u = poolIn poolB (k .b) s u
 
-abbrev pub actualsOf : Row → ℤ
-actualsOf r = sumActuals (kindsOf r)
+-- ---- any book: the kept sums
 
-abbrev pub openOf : Row → Row → Row → ℤ
-openOf u a b = u .«open» .0 +ℤ (a .«open» .0 +ℤ b .«open» .0)
-
--- "A adds the actuals of all kinds in A's row, B those in B's row, open the open of every plant's row", and due d
+-- with the rows u, a and b and the due d of a second more
 unfoldable pub sumsWith : Sums → Row → Row → Row → ℤ → Sums
 sumsWith q u a b d =
     record {
@@ -107,7 +121,7 @@ plantsIn k s =
     onRow (aIn k s u .answer)
     (λ a. onRow (bIn k s u .answer) (λ b. acceptedIn k s u a b) (refusedBy k B))
     (refusedBy k A))
-    (refusedBy k Unit)
+    (refusedBy k U)
 
 abbrev pub stepBy : ℕ → Book → BookStep → BookStep
 stepBy zero k given = given
@@ -136,8 +150,12 @@ pub record Ready (k : Book) : Type 0 where
   pub b : plant.Ready (k .b)
   pub sums : SumsReady (k .unit .seconds) (k .sums)
 
+-- the book second's contract, for every book that it may be given
 pub record Stepped (k : Book) (s : BookSecond) (r : BookStep) : Type 0 where
   pub is : r ≡ stepIn k s
+  -- where accepted seconds left the book: 01's figures or number over them, and the book that the longer list leaves
+  pub past : (h : History) → Accepted h → k ≡ stateOf h → OverPast h s r
+  -- what callers need to go on
   pub ready : Ready (r .book)
 
 -- ---- what the other operations ask and answer

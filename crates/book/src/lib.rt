@@ -18,12 +18,12 @@ use unit::others;
 ghost use mathlib.Core.Path.{_≡_};
 ghost use lib.ListN.{length};
 ghost use Rattle.record.specs.Record.{size};
-ghost use Rattle.book.specs.Rows.{formNumber};
+ghost use Rattle.book.specs.Refusals.{formNumber};
 ghost use Rattle.book.specs.State.{secondOf, fresh, refusedBy, Ready, PlantsStepped, Stepped};
 
 // The plants of a book.
 pub enum Plant {
-    Unit,
+    U,
     A,
     B,
 }
@@ -112,8 +112,8 @@ impl Book {
         }
     }
 
-    // The unit first, then A, then B: the first refusal leaves with the old book. A pool's working point has the unit's added, its measured the
-    // unit's and its own values there.
+    // The unit first, then A, then B: the first refusal leaves with the old book. A pool's working point has the unit's working point
+    // added; its measured has that and the pool's own values at the unit.
     fn plants(self, owner: u8, unit: &[u8], a: &[u8], b: &[u8]) -> BookStep
         requires { ⌜ Ready self × (length (now unit) ≡ size) × (length (now a) ≡ size) × (length (now b) ≡ size) ⌝ }
         ensures { λ r. ⌜ PlantsStepped self owner (now (unit .entry)) (now (a .entry)) (now (b .entry)) r ⌝ }
@@ -121,7 +121,7 @@ impl Book {
         let unit_step = self.unit.second_with(unit, Kw(0), Kw(0));
         let unit_answer = unit_step.answer;
         let PlantAnswer::Row(unit_row) = unit_answer else {
-            return self.refused_by(Plant::Unit, number_in(unit_answer));
+            return self.refused_by(Plant::U, number_in(unit_answer));
         };
         let unit_record = record::fields_of(unit);
         let point = unit_record.working_point;

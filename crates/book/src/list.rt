@@ -3,7 +3,7 @@ use crate::Book;
 ghost use mathlib.Core.Path.{_≡_};
 ghost use Prim.Native.Nat.{_+_, _-_, _<_, min};
 ghost use lib.ListN.{length, getD};
-ghost use Rattle.book.specs.List.{secondsIn, Ran};
+ghost use Rattle.book.specs.List.{listedIn, ListRan};
 
 // Where a second's bytes start: past its owner byte and its length byte, or at the end of the list.
 fn part_start(at: usize, n: usize) -> usize
@@ -29,7 +29,7 @@ fn part_end(list: &[u8], at: usize) -> usize
 // Runs a list of book seconds from a fresh book to its end, refused ones included. In the slice each second has an owner byte, a byte that says
 // how many bytes follow, 0 to 255, and those bytes: 108 of them in a second of the right length. The last one may be cut short.
 pub fn run(list: &[u8]) -> Book
-    ensures { λ r. ⌜ Ran (secondsIn (now (list .entry))) r ⌝ }
+    ensures { λ r. ⌜ ListRan (listedIn (now (list .entry))) r ⌝ }
 {
     let mut book = Book::new();
     let mut at: usize = 0;

@@ -9,7 +9,8 @@ ghost use Rattle.numbers.specs.Bounds.{Within};
 ghost use Rattle.record.specs.Record.{mostSeconds};
 ghost use Rattle.sharing.specs.Sizes.{SizedRow};
 ghost use Rattle.book.specs.Seconds.{difference, dueFrom};
-ghost use Rattle.book.specs.State.{mostSummand, mostAtUnit, mostAtPool, actualsOf, openOf, sumsWith, InRange, Readable, SumsReady, Summed};
+ghost use Rattle.book.specs.Sums.{actualsOf, openOf};
+ghost use Rattle.book.specs.State.{mostSummand, mostAtUnit, mostAtPool, sumsWith, InRange, Readable, SumsReady, Summed};
 
 // The sum of three powers of a second.
 pub(crate) fn sum_of(x: Kw, y: Kw, z: Kw) -> Kw

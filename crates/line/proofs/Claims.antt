@@ -15,7 +15,8 @@ use Rattle.row.specs.declared.sums.Sums.{Sums}
 use Rattle.line.specs.Text.{ascii, digits, digitsIn, decimal, field, named}
 use Rattle.line.specs.Widths.{lineRoom, rowRoom, plantWidth, kindWidth, sumWidth}
 use Rattle.line.specs.Line.{plantText, secondText, sumText, refusalText, kindText, rowText}
-use Rattle.line.specs.Claims.{Kind32, Row32, Sums64, Lengths, Examples}
+use Rattle.row.specs.Fits.{Kind32, Row32, Sums64}
+use Rattle.line.specs.Claims.{Lengths, Examples}
 use Rattle.line.proofs.Digits.{digits-by}
 use Rattle.line.proofs.Lengths.{count-most, decimal-64, field-most}
 

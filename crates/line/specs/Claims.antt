@@ -4,37 +4,17 @@ use Prim.Native.Nat.{ℕ, _^_, _≤_, _<_}
 use Prim.Native.Char.{code}
 use lib.ListN.{length}
 use lib.IntN.{ℤ, pos, negsuc}
-use mir.Syntax.{w32, w64}
-use mir.Val.{SFits}
 use Rattle.power.specs.Units.{kw}
 use Rattle.row.specs.declared.KindRow.{KindRow}
 use Rattle.row.specs.declared.Row.{Row}
 use Rattle.row.specs.declared.sums.Sums.{Sums}
+use Rattle.row.specs.Fits.{Row32, Sums64}
 use Rattle.line.specs.Text.{ascii, decimal}
 use Rattle.line.specs.Widths.{lineRoom, rowRoom}
 use Rattle.line.specs.Line.{secondText, sumText, refusalText, rowText}
 
--- "A row's figures are signed 32-bit numbers and the four sums 64-bit ones"
-pub record Kind32 (k : KindRow) : Type 0 where
-  pub setpoint : SFits w32 (k .setpoint .0)
-  pub low : SFits w32 (k .band .low .0)
-  pub high : SFits w32 (k .band .high .0)
-  pub share : SFits w32 (k .share .0)
-  pub actual : SFits w32 (k .actual .0)
-
-pub record Row32 (x : Row) : Type 0 where
-  pub fcr : Kind32 (x .fcr)
-  pub afrr : Kind32 (x .afrr)
-  pub mfrr : Kind32 (x .mfrr)
-  pub «open» : SFits w32 (x .«open» .0)
-
-pub record Sums64 (s : Sums) : Type 0 where
-  pub a : SFits w64 (s .a .0)
-  pub b : SFits w64 (s .b .0)
-  pub «open» : SFits w64 (s .«open» .0)
-  pub due : SFits w64 (s .due .0)
-
--- "so 200 bytes always suffice", and 256 for the line with every figure
+-- "A row's figures are signed 32-bit numbers and the four sums 64-bit ones, so 200 bytes always suffice", and 256 for the line with every figure.
+-- That rows and sums are so is shown of every list (`RowsHold`, `Balanced` of book/specs/Claims.antt).
 pub record Lengths : Type 0 where
   pub second : (t : ℕ) (u a b : Row) → t < 2 ^ 32 → Row32 u → Row32 a → Row32 b → length (secondText t u a b) ≤ lineRoom
   pub sums : (s : Sums) → Sums64 s → length (sumText s) ≤ lineRoom

@@ -1,5 +1,5 @@
 -- The marked values hold: each kind's crate has shown its own. Assumes nothing.
-use Rattle.fcr.proofs.Claims as fcr
+use Rattle.fcr.proofs.Values as fcr
 use Rattle.mfrr.proofs.Values as mfrr
 use Rattle.sharing.proofs.Values as sharing
 use Rattle.marked_values.specs.Marked.{Marked}
@@ -7,17 +7,7 @@ use Rattle.marked_values.specs.Marked.{Marked}
 pub marked : Marked
 marked =
     record {
-      held-400-at-10 = fcr.values .held-400-at-10;
-      held-400-at-11 = fcr.values .held-400-at-11;
-      held-400-at-199 = fcr.values .held-400-at-199;
-      held-400-at-200 = fcr.values .held-400-at-200;
-      held-333-at-minus-50 = fcr.values .held-333-at-minus-50;
-      fall-at-age-15 = fcr.values .fall-at-age-15;
-      fall-at-age-16 = fcr.values .fall-at-age-16;
-      call-at-1 = mfrr.values .at-1;
-      call-at-900 = mfrr.values .at-900;
-      call-at-901 = mfrr.values .at-901;
-      call-at-1800 = mfrr.values .at-1800;
-      tolerances-5-5 = sharing.values .tie;
-      tolerances-1-1-1 = sharing.values .past;
+      fcr = fcr.marked;
+      mfrr = mfrr.values .marked;
+      sharing = sharing.values .marked;
     }

@@ -1,17 +1,20 @@
--- A plant second from any state: the rules of specs/Rows.antt, on what the state holds.
+-- What a plant's state holds after a past, and a plant second from any state: the rules of specs/Refusals.antt and the row of specs/Rows.antt,
+-- on what the state holds.
 use Prim.Native.Nat.{ℕ, zero, suc, _+_, _≤_}
 use mathlib.Core.Path.{_≡_}
-use mathlib.Core.List.{List}
+use mathlib.Core.List.{List, [], _∷_}
 use lib.IntN.{ℤ}
+use lib.ListN.{length}
 use Rattle.numbers.specs.Bounds.{Within}
+use Rattle.numbers.specs.Rules.{Rule, first}
 use Rattle.power.specs.declared.kilowatts.Kw.{Kw}
 use Rattle.power.specs.declared.limits.Band.{Band}
+use Rattle.power.specs.Units.{kw}
 use Rattle.record.specs.declared.Record.{Record}
 use Rattle.record.specs.declared.Reading.{Reading}
 use Rattle.record.specs.declared.Reading.the-variants as reading
 use Rattle.record.specs.Record.{mostSeconds, recordOf, readingOf, bitsOf}
 use Rattle.row.specs.declared.Row.{Row}
-use Rattle.sharing.specs.declared.kinds.Kind.{Kind}
 use Rattle.sharing.specs.Sizes.{SizedKinds, SizedRow}
 use Rattle.fcr.specs.declared.FcrState.{FcrState}
 use Rattle.fcr.specs.declared.FcrStep.{FcrStep}
@@ -23,14 +26,57 @@ use Rattle.mfrr.specs.declared.MfrrState.{MfrrState}
 use Rattle.mfrr.specs.declared.MfrrStep.{MfrrStep}
 use Rattle.mfrr.specs.declared.MfrrAnswer.{MfrrAnswer}
 use Rattle.mfrr.specs.declared.MfrrAnswer.the-variants as mfrr-answer
+use Rattle.mfrr.specs.Signal as mfrr-signal
+use Rattle.mfrr.specs.Refusals.{callRules}
 use Rattle.mfrr.specs.State as mfrr
 use Rattle.plant.specs.declared.Kinds.{Kinds}
 use Rattle.plant.specs.declared.PlantAnswer.the-variants as answer
 use Rattle.plant.specs.declared.PlantState.{PlantState}
 use Rattle.plant.specs.declared.PlantStep.{PlantStep}
-use Rattle.plant.specs.Seconds.{History, fcrSetpoint, afrrSecond, mfrrSecond}
-use Rattle.plant.specs.Refusals.{mostPower, recordNumber}
-use Rattle.plant.specs.Rows.{offNumber, sharedDifference, rowBy, Accepted, stateOf, OverPast}
+use Rattle.plant.specs.Seconds.{History, fcrSetpoint, fcrPast, afrrSecond, afrrPast, mfrrSecond, mfrrPast, setpointsWith}
+use Rattle.plant.specs.Refusals.{mostPower, recordNumber, offNumber, rulesWith, lengthRule, numberAt, Accepted, grown}
+use Rattle.plant.specs.Rows.{kindsWith, sharedDifference, rowBy, saidAt, answerAt, says, numberIn}
+
+-- ---- after a past
+
+-- what the state holds after the past h
+unfoldable pub stateOf : History → PlantState
+stateOf h =
+    record {
+      seconds = length h;
+      fcr = fcr.stateOf (fcrPast h);
+      afrr = afrr.stateOf (afrrPast h);
+      mfrr = mfrr.stateOf (mfrrPast h);
+    }
+
+-- the step r of a second of bytes s after the accepted seconds h: its answer is the one over them, and its state the one that they and, unless
+-- it is refused, this second leave
+pub record OverPast (h : History) (s : List ℕ) (m w : ℤ) (r : PlantStep) : Type 0 where
+  pub said : says (r .answer) ≡ saidAt h s m w
+  pub number : numberIn (r .answer) ≡ numberAt h s
+  pub answer : r .answer ≡ answerAt h s m w
+  pub state : r .state ≡ stateOf (grown h s)
+  pub stays : Accepted (grown h s)
+
+-- ---- any state: its number
+
+-- 8 to 10, by the phase and the leftovers that the state holds
+unfoldable pub callRulesIn : MfrrState → ℕ → mfrr-signal.MfrrSecond → List Rule
+callRulesIn s t mfrr-signal.quiet = []
+callRulesIn s t (mfrr-signal.call e D) = callRules (mfrr.restingIn (s .phase)) (length (mfrr.countingIn (s .leftovers))) t e D
+
+-- mFRR's setpoint with the second's call taken in
+abbrev pub mfrrSetpointIn : PlantState → Record → Kw
+mfrrSetpointIn st x = kw (mfrr.valueIn (mfrr.takenIn (st .mfrr) (st .seconds) (mfrrSecond x) .phase))
+
+-- the rules of specs/Refusals.antt, in their order
+abbrev pub recordRulesIn : PlantState → Record → List Rule
+recordRulesIn st x = rulesWith (st .seconds) x (callRulesIn (st .mfrr) (st .seconds) (mfrrSecond x)) (setpointsWith x (mfrrSetpointIn st x))
+
+abbrev pub rulesIn : PlantState → List ℕ → List Rule
+rulesIn st s = lengthRule s ∷ recordRulesIn st (recordOf s)
+
+-- ---- any state: its step
 
 -- what each kind's step gives for record x
 abbrev pub fcrStepIn : PlantState → Record → FcrStep
@@ -42,21 +88,9 @@ afrrStepIn st x = afrr.stepIn (st .afrr) (afrrSecond x)
 abbrev pub mfrrStepIn : PlantState → Record → MfrrStep
 mfrrStepIn st x = mfrr.stepIn (st .mfrr) (st .seconds) (mfrrSecond x)
 
--- the kinds, by their setpoints and bands
-unfoldable pub kindsWith : Record → Kw → Band → Band → Kind → Kinds
-kindsWith x s fcr-band afrr-band mfrr =
-    record {
-      fcr = record { on = bitsOf (x .status) .fcr; setpoint = s; band = fcr-band };
-      afrr = record { on = bitsOf (x .status) .afrr; setpoint = x .«afrr_setpoint»; band = afrr-band };
-      mfrr = mfrr;
-    }
-
-abbrev pub kindsIn : PlantState → Record → Kind → Kinds
-kindsIn st x mfrr = kindsWith x (fcrSetpoint x) (fcrStepIn st x .band) (afrrStepIn st x .band) mfrr
-
--- mFRR's, where its step gives the setpoint s and the band b
-abbrev pub mfrrKind : Record → Kw → Band → Kind
-mfrrKind x s b = record { on = bitsOf (x .status) .mfrr; setpoint = s; band = b }
+-- the kinds, where mFRR's step gives the setpoint s and the band b
+abbrev pub kindsIn : PlantState → Record → Kw → Band → Kinds
+kindsIn st x s b = kindsWith x (setpointsWith x s) (fcrStepIn st x .band) (afrrStepIn st x .band) b
 
 -- the state after an accepted second, by the kinds' states after it
 abbrev pub nextWith : PlantState → FcrState → AfrrState → MfrrState → PlantState
@@ -80,12 +114,13 @@ abbrev pub acceptedIn : PlantState → Record → Kinds → MfrrState → ℤ �
 acceptedIn st x k next m w = record { answer = answer.Row (rowBy x k m w); state = grownIn st x next }
 
 -- 11, after what mFRR gave
-unfoldable pub kindsStepIn : PlantState → Record → Kind → MfrrState → ℤ → ℤ → PlantStep
-kindsStepIn st x k next m w = stepBy (offNumber (kindsIn st x k)) st (acceptedIn st x (kindsIn st x k) next m w)
+unfoldable pub kindsStepIn : PlantState → Record → Kw → Band → MfrrState → ℤ → ℤ → PlantStep
+kindsStepIn st x s b next m w =
+    stepBy (offNumber (bitsOf (x .status)) (setpointsWith x s)) st (acceptedIn st x (kindsIn st x s b) next m w)
 
 -- 8 to 10, which mFRR's step gives
 abbrev pub givenIn : MfrrAnswer → MfrrState → PlantState → Record → ℤ → ℤ → PlantStep
-givenIn (mfrr-answer.Given s b) next st x m w = kindsStepIn st x (mfrrKind x s b) next m w
+givenIn (mfrr-answer.Given s b) next st x m w = kindsStepIn st x s b next m w
 givenIn (mfrr-answer.Refused n) next st x m w = refusedIn st n
 
 unfoldable pub callStepIn : PlantState → Record → ℤ → ℤ → PlantStep
@@ -106,7 +141,7 @@ stepIn st s m w = readIn (readingOf s) st m w
 
 -- ---- what a step asks and ensures
 
--- what is asked of a state: every list of seconds leaves it so (`EveryList` of specs/Run.antt)
+-- what is asked of a state: every list of seconds leaves it so (`EveryList` of specs/Claims.antt)
 pub record Ready (st : PlantState) : Type 0 where
   pub count : st .seconds ≤ mostSeconds
   pub fcr : fcr.Ready (st .fcr)
@@ -144,6 +179,8 @@ pub record StepFacts (x : Record) (m w : ℤ) (r : PlantStep) : Type 0 where
 -- the plant second's contract, for every state that it may be given
 pub record Stepped (st : PlantState) (s : List ℕ) (m w : ℤ) (r : PlantStep) : Type 0 where
   pub is : r ≡ stepIn st s m w
+  -- its number is the first of one list of rules, 0 with a row
+  pub number : numberIn (r .answer) ≡ first (rulesIn st s)
   -- where accepted seconds left the state: 01's figures or number over them, and the state that the longer list leaves
   pub past : (h : History) → Accepted h → st ≡ stateOf h → OverPast h s m w r
   -- "State unchanged"

@@ -1,4 +1,4 @@
--- A header and a block as their readers answered: the header's seconds are few; a block's are run in turn, or it is refused. Assumes nothing.
+-- A block as its reader answered: its seconds are run in turn, or it is refused. Assumes nothing.
 use mathlib.Core.Path.{_≡_, refl, sym, ap, _∙_}
 use mathlib.Core.List.{List, [], _∷_}
 use Prim.Native.Nat.{ℕ, zero, suc, _≤_}
@@ -8,25 +8,15 @@ use Rattle.book.specs.declared.Book.{Book}
 use Rattle.book.specs.State.{Ready}
 use Rattle.block.specs.declared.Block.{Block}
 use Rattle.block.specs.declared.Block.the-variants as reader
-use Rattle.block.specs.declared.Header.{Header}
-use Rattle.block.specs.declared.Header.the-variants as header
-use Rattle.block.specs.Header.{headerOf, headerSays}
 use Rattle.block.specs.Said.{refused, answered}
-use Rattle.record.specs.Record.{mostSeconds}
 use Rattle.block.specs.Places.{blockSize, perBlock}
-use Rattle.block.specs.Block.{blockNumber, blockOf, blockSays, countOf}
-use Rattle.block.proofs.Taken.{header-fields, block-fields, block-zero, whole-block}
+use Rattle.block.specs.Block.{blockNumber, blockOf, blockSays, countOf, secondsFrom}
+use Rattle.block.proofs.Taken.{block-fields, block-zero, whole-block}
 use Rattle.codec.proofs.Puts.{loosen, none}
 use Rattle.report.specs.declared.run.Plan.{Plan}
 use Rattle.report.specs.declared.run.Verdict.the-variants.{Refused}
 use Rattle.report.specs.Text.{blockRoom}
-use Rattle.report.specs.Printed.{secondsFrom}
 use Rattle.report.specs.Running.{refusedAt, secondsIn, blockBy, blockIn, runOf, Adds}
-
-pub few : (s : List ℕ) {r : Header} {o t : ℕ} → r ≡ header.Fields o t → headerSays r ≡ headerOf s → t ≤ mostSeconds
-few s {o = o} {t} is says =
-    let f = header-fields s o t (sym says ∙ ap headerSays is) in
-    omega (arith, f .0 .most, f .2)
 
 module _ (p : Plan) (n : ℕ) (s : List ℕ) where
   pub whole : {r : Block} {m : ℕ} → r ≡ reader.Seconds m → blockSays r ≡ blockOf s (p .seconds) n → (length s ≡ blockSize) × (m ≤ perBlock)

@@ -1,4 +1,3 @@
 pub mod Adding
 pub mod Seconds
 pub mod Blocks
-pub mod Bytes

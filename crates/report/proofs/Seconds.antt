@@ -11,7 +11,7 @@ use Rattle.book.specs.declared.BookStep.{BookStep}
 use Rattle.book.specs.declared.BookAnswer.the-variants.{Rows}
 use Rattle.book.specs.State.{Ready, Stepped}
 use Rattle.book.specs.State as book
-use Rattle.block.specs.Block.{secondOf}
+use Rattle.block.specs.Block.{secondOf, secondsFrom}
 use Rattle.block.specs.Places.{perBlock}
 use Rattle.codec.specs.Put.{Put}
 use Rattle.codec.proofs.Puts.{both, kept, loosen, none}
@@ -20,7 +20,6 @@ use Rattle.report.specs.declared.run.Run.{Run}
 use Rattle.report.specs.declared.run.Verdict.the-variants.{Accepted, Refused}
 use Rattle.report.specs.Text.{linesOf, secondRoom, blockRoom}
 use Rattle.report.specs.Running.{refusedAt, answered, secondIn, after, followed, secondsIn, runOf, Adds}
-use Rattle.report.specs.Printed.{secondsFrom}
 
 -- ---- one second
 

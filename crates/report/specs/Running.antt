@@ -1,33 +1,20 @@
--- A book taken as its bytes come: what each adds to the text, and where the book stands then. That all of it is `printed` of the bytes is a claim
--- (specs/Claims.antt).
+-- A block run second by second: the text that it adds, the book after it, and its verdict.
 use mathlib.Core.Path.{_≡_}
-use Prim.Native.Nat.{ℕ, zero, suc, _+_, _*_, _-_, _≤_, _<_, min}
-use mathlib.Core.Bool.{Bool, true, false, cond}
+use Prim.Native.Nat.{ℕ, zero, suc}
 use mathlib.Core.List.{List, [], _∷_, _++_}
-use lib.Dec.{eqb, leb}
-use lib.ListN.{length, take}
 use Rattle.book.specs.declared.Book.{Book}
 use Rattle.book.specs.declared.BookAnswer.{BookAnswer}
 use Rattle.book.specs.declared.BookAnswer.the-variants as answer
-use Rattle.book.specs.State.{fresh, stepIn, Ready}
+use Rattle.book.specs.State.{stepIn, Ready}
 use Rattle.book.specs.State as book
-use Rattle.record.specs.Record.{mostSeconds}
-use Rattle.block.specs.Places.{blockSize, perBlock}
-use Rattle.block.specs.Header.{headerNumber, ownerOf, secondsOf}
-use Rattle.block.specs.Block.{blockNumber, countOf, dueIn}
+use Rattle.block.specs.Block.{blockNumber, countOf, secondsFrom}
 use Rattle.codec.specs.Put.{Put}
-use Rattle.line.specs.Line.{sumText, refusalText}
 use Rattle.report.specs.declared.Form.{Form}
 use Rattle.report.specs.declared.run.Plan.{Plan}
 use Rattle.report.specs.declared.run.Run.{Run}
 use Rattle.report.specs.declared.run.Verdict.{Verdict}
 use Rattle.report.specs.declared.run.Verdict.the-variants.{Accepted, Refused}
-use Rattle.report.specs.declared.standing.Standing.{Standing}
-use Rattle.report.specs.declared.standing.Advance.{Advance}
-use Rattle.report.specs.declared.reading.Reading.{Reading}
-use Rattle.report.specs.declared.reading.Taken.{Taken}
-use Rattle.report.specs.Text.{linesOf, blockRoom}
-use Rattle.report.specs.Printed.{secondsFrom, lastBlock}
+use Rattle.report.specs.Text.{linesOf}
 
 -- ---- the seconds of a block
 
@@ -73,120 +60,7 @@ blockBy (suc m) p k s = refusedAt k (suc m)
 unfoldable pub blockIn : Plan → ℕ → Book → List ℕ → Ran
 blockIn p n k s = blockBy (blockNumber s (p .seconds) n) p k s
 
--- ---- block after block
-
--- the text that is added, where the book stands after it, and the bytes of the next block that are there
-pub record Went : Type 0 where
-  pub text : List ℕ
-  pub standing : Standing
-  pub part : List ℕ
-
-abbrev pub unmoved : Standing → List ℕ → Went
-unmoved st p = record { text = []; standing = st; part = p }
-
--- before the header its seconds count as 0, so that block 0, the header, is due
-unfoldable pub start : Form → Standing
-start f = record { plan = record { form = f; owner = 0; seconds = 0 }; next = 0; book = fresh; verdict = Accepted }
-
-abbrev pub withVerdict : Standing → Verdict → Standing
-withVerdict st v = record { plan = st .plan; next = st .next; book = st .book; verdict = v }
-
-abbrev pub afterHeader : Standing → ℕ → ℕ → Standing
-afterHeader st o t = record { plan = record { form = st .plan .form; owner = o; seconds = t }; next = 1; book = st .book; verdict = st .verdict }
-
-abbrev pub headerBy : ℕ → Standing → List ℕ → Went
-headerBy zero st s = unmoved (afterHeader st (ownerOf s) (secondsOf s)) []
-headerBy (suc n) st s = unmoved (withVerdict st (Refused (suc n))) []
-
-abbrev pub laterBy : Ran → Standing → Went
-laterBy r st =
-    record {
-      text = r .text;
-      standing = record { plan = st .plan; next = st .next + 1; book = r .book; verdict = r .verdict };
-      part = [];
-    }
-
--- bytes that no block is due for: after the last one they are refused, after a refusal nothing counts
-abbrev pub beyondBy : Verdict → Standing → List ℕ → Went
-beyondBy (Refused n) st s = unmoved st []
-beyondBy Accepted st [] = unmoved st []
-beyondBy Accepted st (b ∷ s) = unmoved (withVerdict st (Refused 21)) []
-
-abbrev pub dueBy : Verdict → ℕ → ℕ → Bool
-dueBy (Refused n) next t = false
-dueBy Accepted next t = leb next (lastBlock t)
-
--- whether a block is due
-unfoldable pub isDue : Standing → Bool
-isDue st = dueBy (st .verdict) (st .next) (st .plan .seconds)
-
--- the block s, or bytes s where none is due
-unfoldable pub standingIn : Standing → List ℕ → Went
-standingIn st s =
-    cond (isDue st)
-    (cond (eqb (st .next) 0) (headerBy (headerNumber s) st s) (laterBy (blockIn (st .plan) (st .next) (st .book) s) st))
-    (beyondBy (st .verdict) st s)
-
--- ---- byte after byte
-
--- the byte b, where p are the bytes of the next block that are there
-abbrev pub byteBy : Bool → Bool → Standing → List ℕ → ℕ → Went
-byteBy false whole st p b = standingIn st (b ∷ [])
-byteBy true false st p b = unmoved st (p ++ (b ∷ []))
-byteBy true true st p b = standingIn st (p ++ (b ∷ []))
-
-abbrev pub byteIn : Standing → List ℕ → ℕ → Went
-byteIn st p b = byteBy (isDue st) (eqb (length p + 1) blockSize) st p b
-
-abbrev pub onward : List ℕ → Went → Went
-onward t w = record { text = t ++ w .text; standing = w .standing; part = w .part }
-
-unfoldable pub bytesIn : Standing → List ℕ → List ℕ → Went
-bytesIn st p [] = unmoved st p
-bytesIn st p (b ∷ s) = onward (byteIn st p b .text) (bytesIn (byteIn st p b .standing) (byteIn st p b .part) s)
-
--- ---- the end of the bytes
-
--- "12 for a short block": one that is due and isn't whole
-abbrev pub endBy : Bool → Verdict → Verdict
-endBy true v = Refused 12
-endBy false v = v
-
-unfoldable pub endOf : Standing → Verdict
-endOf st = endBy (isDue st) (st .verdict)
-
-abbrev pub lastBy : Verdict → Book → List ℕ
-lastBy Accepted k = sumText (k .sums)
-lastBy (Refused n) k = refusalText n (k .unit .seconds)
-
-unfoldable pub lastIn : Standing → List ℕ
-lastIn st = lastBy (endOf st) (st .book)
-
--- ---- what the operations ask and answer
-
--- the most bytes that are taken at once, in whole blocks, and room for their text, with a block begun before and one begun after them
-abbrev pub pieceBlocks : ℕ
-pieceBlocks = 32
-
-abbrev pub pieceSize : ℕ
-pieceSize = pieceBlocks * blockSize
-
-abbrev pub pieceRoom : ℕ
-pieceRoom = (pieceBlocks + 2) * blockRoom
-
--- how many bytes are to be read next, at most: none after a refusal, one past the last block, else no more than the blocks due have
-abbrev pub wantedBy : Verdict → Bool → ℕ → ℕ
-wantedBy (Refused n) due left = 0
-wantedBy Accepted false left = 1
-wantedBy Accepted true left = min left pieceSize
-
--- the bytes of the blocks that are due
-unfoldable pub bytesDue : Standing → ℕ
-bytesDue st = (lastBlock (st .plan .seconds) + 1 - st .next) * blockSize
-
--- where `filled` bytes of the next block are there
-unfoldable pub wantedIn : Standing → ℕ → ℕ
-wantedIn st filled = wantedBy (st .verdict) (isDue st) (bytesDue st - filled)
+-- ---- what the operations answer
 
 abbrev pub runOf : Book → ℕ → Verdict → Run
 runOf k used v = record { book = k; used = used; verdict = v }
@@ -197,54 +71,3 @@ pub record Adds (m : ℕ) (b e : List ℕ) (used : ℕ) (r : Run) (w : Ran) : Ty
   pub verdict : r .verdict ≡ w .verdict
   pub text : Put m b e used (r .used) (w .text)
   pub ready : Ready (r .book)
-
-pub record StandingReady (st : Standing) : Type 0 where
-  pub book : Ready (st .book)
-  pub few : st .plan .seconds ≤ mostSeconds
-
-pub record Advances (m : ℕ) (b e : List ℕ) (used : ℕ) (r : Advance) (w : Went) : Type 0 where
-  pub standing : r .standing ≡ w .standing
-  pub text : Put m b e used (r .used) (w .text)
-  pub ready : StandingReady (r .standing)
-
--- the bytes of the next block that a reading has; those of its array from `filled` on are no part of it
-abbrev pub partOf : Reading → List ℕ
-partOf r = take (r .filled) (r .part)
-
-pub record ReadingReady (r : Reading) : Type 0 where
-  pub standing : StandingReady (r .standing)
-  pub short : r .filled < blockSize
-
-pub record Takes (m : ℕ) (b e : List ℕ) (used : ℕ) (r : Taken) (w : Went) : Type 0 where
-  pub standing : r .reading .standing ≡ w .standing
-  pub part : partOf (r .reading) ≡ w .part
-  pub text : Put m b e used (r .used) (w .text)
-  pub ready : ReadingReady (r .reading)
-
--- r of the next `len` bytes belong to the block that was begun
-pub record Head (filled len r : ℕ) : Type 0 where
-  pub inside : r ≤ len
-  pub fits : filled + r ≤ blockSize
-  pub none : filled ≡ 0 → r ≡ 0
-  pub whole : 0 < filled → r < len → filled + r ≡ blockSize
-
--- bytes that fit the block next in turn
-pub record Fitting (r : Reading) (s : List ℕ) : Type 0 where
-  pub ready : ReadingReady r
-  pub fits : r .filled + length s ≤ blockSize
-
--- a block's text is added only where a block is whole, so no more room is used than the bytes ask for
-pub record Chunked (r : Reading) (s b e : List ℕ) (used : ℕ) (t : Taken) : Type 0 where
-  pub takes : Takes blockRoom b e used t (bytesIn (r .standing) (partOf r) s)
-  pub paced : t .used * blockSize + t .reading .filled * blockRoom ≤ used * blockSize + (r .filled + length s) * blockRoom
-  pub settled : r .filled + length s ≡ blockSize → t .reading .filled ≡ 0
-  pub still : length s ≡ 0 → t .reading .filled ≡ r .filled
-
-pub record IsStart (f : Form) (r : Reading) : Type 0 where
-  pub standing : r .standing ≡ start f
-  pub part : partOf r ≡ []
-  pub ready : ReadingReady r
-
-pub record Wanted (r : Reading) (n : ℕ) : Type 0 where
-  pub is : n ≡ wantedIn (r .standing) (r .filled)
-  pub most : n ≤ pieceSize

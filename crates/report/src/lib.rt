@@ -1,15 +1,14 @@
-// What is printed of a book (01, "Blocks and text"), from its bytes in pieces of any size: nothing here reads or writes. A `Reading` says where
-// the book stands; `take` takes the next bytes and puts their text into a lent buffer; `last_line` ends the text where the bytes end. One after
-// the other these texts are `printed` of all the bytes, however they were cut (specs/Printed.antt, specs/Claims.antt).
+// A block of a book run second by second (01, "Blocks and text"): `run_block` says what text its seconds add to a lent buffer, which book they
+// leave, and the verdict, for any bytes. `add` appends one line. A whole book is crate `pieces`.
 mod lines;
-mod reading;
 mod run;
-mod standing;
 
-pub use reading::PIECE;
-pub use reading::PIECE_ROOM;
-pub use reading::Reading;
-pub use reading::Taken;
+pub use lines::TextLine;
+pub use lines::add;
+pub use run::Plan;
+pub use run::Run;
+pub use run::Verdict;
+pub use run::run_block;
 
 // What a second is printed as: one line with the actual values, or a line a plant with every figure of its row.
 pub enum Form {

@@ -12,7 +12,7 @@ ghost use Rattle.line.specs.Widths.{rowRoom};
 ghost use Rattle.report.specs.Text.{textOf, roomOf, linesOf, secondRoom};
 
 // The lines that are printed.
-pub(crate) enum TextLine {
+pub enum TextLine {
     Second {
         second: u32,
         unit: Row,
@@ -47,7 +47,7 @@ fn write(buf: &mut [u8], text: TextLine) -> Answer
 }
 
 // Appends a line, and answers where the next one goes.
-pub(crate) fn add(out: &mut [u8], at: usize, text: TextLine) -> usize
+pub fn add(out: &mut [u8], at: usize, text: TextLine) -> usize
     requires { ⌜ at + rowRoom ≤ length (now out) ⌝ }
     ensures { λ r. ⌜ Put rowRoom (now (out .entry)) (now (out .exit)) at r (textOf text) ⌝ }
 {

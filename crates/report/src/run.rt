@@ -9,8 +9,8 @@ ghost use mathlib.Core.Path.{_≡_};
 ghost use lib.ListN.{length};
 ghost use Rattle.book.specs.State.{Ready};
 ghost use Rattle.block.specs.Places.{blockSize, perBlock};
+ghost use Rattle.block.specs.Block.{secondsFrom};
 ghost use Rattle.report.specs.Text.{secondRoom, blockRoom};
-ghost use Rattle.report.specs.Printed.{secondsFrom};
 ghost use Rattle.report.specs.Running.{runOf, secondIn, secondsIn, blockIn, Adds};
 
 // How a book is run: the form of its lines, and what its header gives.
@@ -27,13 +27,13 @@ pub enum Verdict {
 }
 
 // Where a run stands: `used` bytes of the buffer wait to be written.
-pub(crate) struct Run {
+pub struct Run {
     pub book: Book,
     pub used: usize,
     pub verdict: Verdict,
 }
 
-pub(crate) fn accepted(book: Book, used: usize) -> Run
+fn accepted(book: Book, used: usize) -> Run
     ensures { λ r. ⌜ r ≡ runOf book used Verdict.Accepted ⌝ }
 {
     Run {
@@ -43,7 +43,7 @@ pub(crate) fn accepted(book: Book, used: usize) -> Run
     }
 }
 
-pub(crate) fn refused(book: Book, used: usize, number: u8) -> Run
+fn refused(book: Book, used: usize, number: u8) -> Run
     ensures { λ r. ⌜ r ≡ runOf book used (Verdict.Refused number) ⌝ }
 {
     Run {
@@ -98,14 +98,7 @@ fn run_seconds(
 }
 
 // Block n as it was read: its seconds are run, or it is refused.
-pub(crate) fn run_block(
-    book: Book,
-    used: usize,
-    plan: Plan,
-    n: u32,
-    block: &[u8],
-    out: &mut [u8],
-) -> Run
+pub fn run_block(book: Book, used: usize, plan: Plan, n: u32, block: &[u8], out: &mut [u8]) -> Run
     requires { ⌜ Ready book × (used + blockRoom ≤ length (now out)) ⌝ }
     ensures { λ r. ⌜ Adds blockRoom (now (out .entry)) (now (out .exit)) used r (blockIn plan n book (now (block .entry))) ⌝ }
 {

@@ -1,21 +1,33 @@
 // The loop that reads a book from standard input, has it taken, and sends the text: the one part of a program that no contract can hold to what
-// is read and written (docs/READING.md). Each function makes at most one call of C's.
+// is read and written (docs/READING.md). Each function makes at most one call of C's, or one that does.
 use libc::STDERR_FILENO;
 use libc::STDIN_FILENO;
 use libc::STDOUT_FILENO;
+use pieces::Reading;
 use report::Form;
-use report::Reading;
 ghost use Prim.Native.Nat.{_≤_};
 ghost use lib.ListN.{length};
-ghost use Rattle.report.specs.Running.{ReadingReady, pieceSize, pieceRoom};
+ghost use Rattle.pieces.specs.Pieces.{ReadingReady, pieceSize, pieceRoom};
 
-// No book is longer, with the byte that is looked for after its last block.
-const MOST_BYTES: usize = block::SIZE * (1 + record::MOST_SECONDS as usize) + 1;
+// No book is longer, with the byte that is looked for after its last block; each turn reads at least one byte.
+const MOST_TURNS: usize = block::SIZE * (1 + record::MOST_SECONDS as usize) + 1;
 
-// What a turn leaves: whether the next one is to come, and where the book stands.
+// After a turn: more is to be read, the last line is due, or something failed outside the book.
+enum Next {
+    Read,
+    Finish,
+    Stop,
+}
+
 struct Turn {
-    goes_on: bool,
+    next: Next,
     reading: Reading,
+}
+
+fn receive(bytes: &mut [u8], wanted: usize) -> isize
+    requires { ⌜ wanted ≤ length (now bytes) ⌝ }
+{
+    libc::read(STDIN_FILENO, &mut bytes[..wanted])
 }
 
 fn send(out: &[u8], end: usize) -> bool
@@ -28,36 +40,96 @@ fn say(text: &[u8]) {
     io::write_all(STDERR_FILENO, text);
 }
 
+// Sends the text of a piece, and says so where that fails: nothing more is sent then.
+fn sent(out: &[u8], end: usize) -> Next
+    requires { ⌜ end ≤ length (now out) ⌝ }
+{
+    if send(out, end) {
+        return Next::Read;
+    }
+    say(b"the output could not be written\n");
+    Next::Stop
+}
+
+// Takes what was read, the first `count` bytes, and sends its text.
+fn pass_on(reading: Reading, bytes: &[u8], out: &mut [u8]) -> Turn
+    requires { ⌜ ReadingReady reading × (length (now bytes) ≤ pieceSize) × (pieceRoom ≤ length (now out)) ⌝ }
+    ensures { λ r. ⌜ ReadingReady (r .reading) ⌝ }
+{
+    let taken = reading.take(bytes, out);
+    let reading = taken.reading;
+    Turn {
+        next: sent(out, taken.used),
+        reading,
+    }
+}
+
+// One turn: reads, takes, sends. An answer below 0 is a failure, 0 the end of the input.
+fn one_turn(reading: Reading, bytes: &mut [u8], out: &mut [u8]) -> Turn
+    requires { ⌜ ReadingReady reading × (pieceSize ≤ length (now bytes)) × (length (now bytes) ≤ pieceSize) × (pieceRoom ≤ length (now out)) ⌝ }
+    ensures { λ r. ⌜ ReadingReady (r .reading) ⌝ }
+{
+    let wanted = reading.wanted();
+    if wanted == 0 {
+        return Turn {
+            next: Next::Finish,
+            reading,
+        };
+    }
+    let got = receive(bytes, wanted);
+    if got < 0 {
+        say(b"the input could not be read\n");
+        return Turn {
+            next: Next::Stop,
+            reading,
+        };
+    }
+    let n = io::count(got, bytes);
+    if n == 0 {
+        return Turn {
+            next: Next::Finish,
+            reading,
+        };
+    }
+    pass_on(reading, &bytes[..n], out)
+}
+
+// Turn after turn, until the last line is due or something failed.
+fn turns(reading: Reading, bytes: &mut [u8], out: &mut [u8]) -> Turn
+    requires { ⌜ ReadingReady reading × (pieceSize ≤ length (now bytes)) × (length (now bytes) ≤ pieceSize) × (pieceRoom ≤ length (now out)) ⌝ }
+    ensures { λ r. ⌜ ReadingReady (r .reading) ⌝ }
+{
+    let mut last = Turn {
+        next: Next::Read,
+        reading,
+    };
+    let mut left = MOST_TURNS;
+    while left > 0 {
+        let next = last.next;
+        let Next::Read = next else {
+            return last;
+        };
+        last = one_turn(last.reading, bytes, out);
+        left -= 1;
+    }
+    last
+}
+
+// The last line, unless something failed outside the book.
+fn finish(last: Turn, out: &mut [u8])
+    requires { ⌜ ReadingReady (last .reading) × (pieceRoom ≤ length (now out)) ⌝ }
+{
+    let next = last.next;
+    if let Next::Finish = next {
+        let end = last.reading.last_line(out);
+        sent(out, end);
+    }
+}
+
 // Prints the book on standard input.
 pub fn print_book(form: Form) {
-    let mut bytes = [0; report::PIECE];
-    let mut out = [0; report::PIECE_ROOM];
-    let mut reading = Reading::new(form);
-    let mut left = MOST_BYTES;
-    while left > 0 {
-        left -= 1;
-        let wanted = reading.wanted();
-        if wanted == 0 {
-            break;
-        }
-        let got = libc::read(STDIN_FILENO, &mut bytes[..wanted]);
-        if got < 0 {
-            say(b"reading failed\n");
-            return;
-        }
-        if got == 0 {
-            break;
-        }
-        let n = got as usize;
-        let taken = reading.take(&bytes[..n], &mut out);
-        if !send(&out, taken.used) {
-            say(b"writing failed\n");
-            return;
-        }
-        reading = taken.reading;
-    }
-    let end = reading.last_line(&mut out);
-    if !send(&out, end) {
-        say(b"writing failed\n");
-    }
+    let mut bytes = [0; pieces::PIECE];
+    let mut out = [0; pieces::PIECE_ROOM];
+    let last = turns(Reading::new(form), &mut bytes, &mut out);
+    finish(last, &mut out);
 }

@@ -1,11 +1,12 @@
 //! `generator SEED [FAMILY]` writes a book to standard output; `generator SEED long [SECONDS]` a long day;
-//! `generator name SEED [FAMILY]` says which family and case that is; `generator families` lists the families.
+//! `generator name SEED [FAMILY]` says which family and case that is; `generator families` lists the families;
+//! `generator seeds` says how many seeds in a row make every broken case.
 
-use reference::maker::families::{long, make, Made, WHOLE};
+use reference::maker::families::{long, make, seeds_for_all, Made, WHOLE};
 use std::io::{self, Write};
 use std::process::exit;
 
-const USAGE: &str = "generator SEED [FAMILY [SECONDS]] | generator name SEED [FAMILY] | generator families";
+const USAGE: &str = "generator SEED [FAMILY [SECONDS]] | generator name SEED [FAMILY] | generator families | generator seeds";
 
 fn book(arguments: &[String]) -> Result<Made, String> {
     let seed: u64 = arguments.first().and_then(|seed| seed.parse().ok()).ok_or(USAGE)?;
@@ -20,6 +21,7 @@ fn main() {
     let arguments: Vec<String> = std::env::args().skip(1).collect();
     let answer = match arguments.first().map(String::as_str) {
         Some("families") => Ok((WHOLE.join("\n") + "\nbroken\n").into_bytes()),
+        Some("seeds") => Ok(format!("{}\n", seeds_for_all()).into_bytes()),
         Some("name") => book(&arguments[1..]).map(|made| (made.name + "\n").into_bytes()),
         _ => book(&arguments).map(|made| made.bytes),
     };

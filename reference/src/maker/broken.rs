@@ -8,15 +8,43 @@ use crate::block::{seal, LENGTH};
 use crate::record::Record;
 use std::array;
 
-/// Where in a book: its first, a middle or its last second or block.
-#[derive(Clone, Copy, Debug)]
+/// Where in a book: its first, a middle or its last second or block, of a short one; or, in a long one, anywhere from
+/// second `LATE` on.
+#[derive(Clone, Copy, Debug, PartialEq)]
 pub enum Place {
     First,
     Middle,
     Last,
+    Late,
 }
 
-const PLACES: [Place; 3] = [Place::First, Place::Middle, Place::Last];
+const PLACES: [Place; 4] = [Place::First, Place::Middle, Place::Last, Place::Late];
+
+/// Far behind the 512 seconds that a program may read at once.
+const LATE: usize = 600;
+
+/// The block that second `LATE` is the first of.
+const FIRST_LATE: i64 = LATE as i64 / 4 + 1;
+
+/// How long a book is.
+#[derive(Clone, Copy, Debug, PartialEq)]
+pub enum Length {
+    Short,
+    Long,
+}
+
+const LENGTHS: [Length; 2] = [Length::Short, Length::Long];
+
+impl Place {
+    fn length(self) -> Length {
+        if self == Place::Late {
+            Length::Long
+        } else {
+            Length::Short
+        }
+    }
+}
+
 const PLANTS: [&str; 3] = ["U", "A", "B"];
 
 #[derive(Clone, Copy, Debug)]
@@ -29,7 +57,7 @@ pub enum Fault {
     TwoPlants(usize, usize),
     /// Faults in two seconds that follow each other.
     TwoSeconds,
-    Input(Input),
+    Input(Input, Length),
     Header(Header),
     Block(Block, Place),
     Mixed(Mixed),
@@ -111,16 +139,19 @@ pub fn cases() -> Vec<Fault> {
     cases.push(Fault::TwoInOne(None));
     cases.extend([Fault::TwoPlants(0, 1), Fault::TwoPlants(0, 2), Fault::TwoPlants(1, 2)]);
     cases.push(Fault::TwoSeconds);
+    cases.extend([Input::Empty, Input::HeaderCut, Input::HeaderOnly, Input::FirstBlockCut].map(|input| Fault::Input(input, Length::Short)));
+    for length in LENGTHS {
+        for input in [
+            Input::MiddleBlockCut,
+            Input::LastBlockCut,
+            Input::LastBlockMissing,
+            Input::OneByteMore,
+            Input::OneBlockMore,
+        ] {
+            cases.push(Fault::Input(input, length));
+        }
+    }
     cases.extend([
-        Fault::Input(Input::Empty),
-        Fault::Input(Input::HeaderCut),
-        Fault::Input(Input::HeaderOnly),
-        Fault::Input(Input::FirstBlockCut),
-        Fault::Input(Input::MiddleBlockCut),
-        Fault::Input(Input::LastBlockCut),
-        Fault::Input(Input::LastBlockMissing),
-        Fault::Input(Input::OneByteMore),
-        Fault::Input(Input::OneBlockMore),
         Fault::Header(Header::CutAndCheck),
         Fault::Header(Header::Check),
         Fault::Header(Header::ByteUnderCheck),
@@ -172,9 +203,10 @@ pub fn make(turn: u64, owner: u8, random: &mut Random) -> Made {
     let fault = cases[(turn % cases.len() as u64) as usize];
     match fault {
         Fault::Plant(number, plant, place) => {
-            let mut seconds = base(owner, full_if(number == 10, plant), random);
+            let mut seconds = base(owner, place.length(), full_if(number == 10, plant), random);
             let at = second_of(place, number, seconds.len(), random);
-            spoil(&mut seconds[at][plant], number, 3 * place as usize + plant, at, random);
+            let way = if place == Place::Late { random.index(9) } else { 3 * place as usize + plant };
+            spoil(&mut seconds[at][plant], number, way, at, random);
             let name = format!("broken, {} in {} at the {:?} second", number, PLANTS[plant], place);
             made(name, book_blocks(owner, &seconds).concat(), number, at)
         }
@@ -184,8 +216,8 @@ pub fn make(turn: u64, owner: u8, random: &mut Random) -> Made {
                 (first as u8, random.within(first + 1, 11) as u8)
             });
             let plant = random.index(3);
-            let mut seconds = base(owner, full_if(next == 10 || first == 10, plant), random);
             let place = random.pick(&PLACES);
+            let mut seconds = base(owner, place.length(), full_if(next == 10 || first == 10, plant), random);
             let at = second_of(place, if next == 10 { 10 } else { first }, seconds.len(), random);
             let (one, other) = (random.index(9), random.index(9));
             spoil(&mut seconds[at][plant], next, other, at, random);
@@ -197,7 +229,7 @@ pub fn make(turn: u64, owner: u8, random: &mut Random) -> Made {
             let smaller = random.within(2, 8);
             let between = random.within(smaller + 1, 9);
             let larger = random.pick(&[9, 11, between]) as u8;
-            let mut seconds = base(owner, None, random);
+            let mut seconds = base(owner, random.pick(&LENGTHS), None, random);
             let at = random.index(seconds.len());
             let (one, other) = (random.index(9), random.index(9));
             spoil(&mut seconds[at][earlier], larger, one, at, random);
@@ -206,14 +238,14 @@ pub fn make(turn: u64, owner: u8, random: &mut Random) -> Made {
             made(name, book_blocks(owner, &seconds).concat(), larger, at)
         }
         Fault::TwoSeconds => {
-            let mut seconds = base(owner, None, random);
+            let mut seconds = base(owner, random.pick(&LENGTHS), None, random);
             let at = random.index(seconds.len() - 1);
             let (one, other) = (random.index(9), random.index(9));
             spoil(&mut seconds[at][2], 11, one, at, random);
             spoil(&mut seconds[at + 1][0], 2, other, at + 1, random);
             made("broken, 11 in B, 2 in U a second later".to_string(), book_blocks(owner, &seconds).concat(), 11, at)
         }
-        Fault::Input(input) => of_input(input, owner, random),
+        Fault::Input(input, length) => of_input(input, length, owner, random),
         Fault::Header(header) => of_header(header, owner, random),
         Fault::Block(block, place) => of_block(block, place, owner, random),
         Fault::Mixed(mixed) => of_mixed(mixed, owner, random),
@@ -237,8 +269,8 @@ fn full_if(full: bool, plant: usize) -> Option<usize> {
 }
 
 /// The seconds of a sound book, all kinds on. With a plant named, that one calls at every second until all eight
-/// places are taken, at second 8, and no place is freed before the book ends.
-fn base(owner: u8, full: Option<usize>, random: &mut Random) -> Vec<Second> {
+/// places are taken, at second 8, and no place is freed before second 901.
+fn base(owner: u8, length: Length, full: Option<usize>, random: &mut Random) -> Vec<Second> {
     let mut tracks: [Track; 3] = array::from_fn(|plant| Track {
         fcr_held: Mover::fixed(random.within(1, 9) * 400),
         deviation: Mover::new(Values::Walk(20, -180, 180), &[1]),
@@ -252,7 +284,10 @@ fn base(owner: u8, full: Option<usize>, random: &mut Random) -> Vec<Second> {
         errors: Errors::Noise(700),
         ..Track::still()
     });
-    let count = random.within(50, 160) as usize;
+    let count = match length {
+        Length::Short => random.within(50, 160),
+        Length::Long => random.within(700, 1_100),
+    } as usize;
     seconds(owner, &mut tracks, count, random)
 }
 
@@ -262,6 +297,8 @@ fn second_of(place: Place, number: u8, count: usize, random: &mut Random) -> usi
         Place::First => first,
         Place::Middle => random.within(first as i64 + 1, count as i64 - 2) as usize,
         Place::Last => count - 1,
+        Place::Late if number == 10 => random.within(LATE as i64, (count as i64 - 1).min(900)) as usize,
+        Place::Late => random.within(LATE as i64, count as i64 - 1) as usize,
     }
 }
 
@@ -349,14 +386,17 @@ fn call(record: &mut Record, now: i64, random: &mut Random) {
     record.delivery_end = (random.within(first, last) * 900) as u32;
 }
 
-fn of_input(input: Input, owner: u8, random: &mut Random) -> Made {
-    let seconds = base(owner, None, random);
+fn of_input(input: Input, length: Length, owner: u8, random: &mut Random) -> Made {
+    let seconds = base(owner, length, None, random);
     let count = seconds.len();
     let mut bytes = book_blocks(owner, &seconds).concat();
     let blocks = bytes.len() / LENGTH - 1;
     let inside = random.within(1, 511) as usize;
-    let middle = random.within(2, blocks as i64 - 1) as usize;
-    let (length, number, at) = match input {
+    let middle = match length {
+        Length::Short => random.within(2, blocks as i64 - 1),
+        Length::Long => random.within(FIRST_LATE, blocks as i64 - 1),
+    } as usize;
+    let (size, number, at) = match input {
         Input::Empty => (0, 12, 0),
         Input::HeaderCut => (random.pick(&[1, 511, inside]), 12, 0),
         Input::HeaderOnly => (LENGTH, 12, 0),
@@ -368,8 +408,8 @@ fn of_input(input: Input, owner: u8, random: &mut Random) -> Made {
         Input::OneBlockMore => (bytes.len() + LENGTH, 21, count),
     };
     let filling = random.pick(&[0, 255, 10]);
-    bytes.resize(length, filling);
-    made(format!("broken, {:?}", input), bytes, number, at)
+    bytes.resize(size, filling);
+    made(format!("broken, {:?}, {:?} book", input, length), bytes, number, at)
 }
 
 /// Gives a header the fault that has this number; the check is renewed after all but 13.
@@ -392,7 +432,7 @@ fn spoil_header(header: &mut [u8], number: u8, random: &mut Random) {
 }
 
 fn of_header(fault: Header, owner: u8, random: &mut Random) -> Made {
-    let seconds = base(owner, None, random);
+    let seconds = base(owner, Length::Short, None, random);
     let count = seconds.len() as i64;
     let left = count % 4;
     let full = count - left;
@@ -490,7 +530,7 @@ fn spoil_block(block: &mut [u8], number: usize, fault: Block, place: Place, rand
     let number = number as u32;
     let by_place = |first: usize, middle: i64, last: usize| match place {
         Place::First => first,
-        Place::Middle => middle as usize,
+        Place::Middle | Place::Late => middle as usize,
         Place::Last => last,
     };
     let spare = random.within(1, 255) as u8;
@@ -522,7 +562,7 @@ fn spoil_block(block: &mut [u8], number: usize, fault: Block, place: Place, rand
 }
 
 fn of_block(fault: Block, place: Place, owner: u8, random: &mut Random) -> Made {
-    let mut seconds = base(owner, None, random);
+    let mut seconds = base(owner, place.length(), None, random);
     if let Block::UnusedSecond = fault {
         while seconds.len() % 4 == 0 {
             seconds.pop();
@@ -534,6 +574,7 @@ fn of_block(fault: Block, place: Place, owner: u8, random: &mut Random) -> Made 
         Place::First => 1,
         Place::Middle => random.within(2, last as i64 - 1) as usize,
         Place::Last => last,
+        Place::Late => random.within(FIRST_LATE, last as i64) as usize,
     };
     spoil_block(&mut blocks[number], number, fault, place, random);
     let mut bytes = blocks.concat();
@@ -551,7 +592,7 @@ fn of_block(fault: Block, place: Place, owner: u8, random: &mut Random) -> Made 
 }
 
 fn of_mixed(mixed: Mixed, owner: u8, random: &mut Random) -> Made {
-    let mut seconds = base(owner, None, random);
+    let mut seconds = base(owner, random.pick(&LENGTHS), None, random);
     let count = seconds.len();
     let number = random.within(2, (count as i64 + 3) / 4 - 1) as usize;
     let first = 4 * (number - 1);
@@ -601,14 +642,15 @@ mod tests {
     use crate::line::refusal_line;
     use crate::line::second_line;
     use crate::program::output_of;
+    use std::collections::BTreeSet;
 
-    /// Every case is refused with the number and at the second that it was made for.
+    /// Every case is refused with the number and at the second that it was made for; and each number that does not
+    /// stand in the header has a case after `LATE` seconds.
     #[test]
     fn cases_are_refused_as_meant() {
-        let count = cases().len() as u64;
-        assert_eq!(count, 160, "two of three seeds: 240 books have every case");
-        for round in 0..40 {
-            for turn in 0..count {
+        let mut late = BTreeSet::new();
+        for round in 0..16 {
+            for turn in 0..cases().len() as u64 {
                 let made = make(turn, (round % 8) as u8, &mut Random::new(round * 1_000 + turn));
                 let output = output_of(&made.bytes, second_line);
                 let (number, at) = made.expected.expect("a broken book says why");
@@ -621,7 +663,11 @@ mod tests {
                     at
                 );
                 assert_eq!(output.lines().count(), at + 1, "{}", made.name);
+                if at >= LATE && round == 0 {
+                    late.insert(number);
+                }
             }
         }
+        assert!(late.iter().eq(&[2, 3, 4, 5, 6, 7, 8, 9, 10, 11, 12, 13, 18, 19, 20, 21]), "{:?}", late);
     }
 }

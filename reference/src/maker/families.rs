@@ -37,6 +37,11 @@ pub fn chosen(seed: u64) -> (&'static str, u64, u8) {
     }
 }
 
+/// How many seeds in a row make every broken case.
+pub fn seeds_for_all() -> u64 {
+    (3 * broken::cases().len() as u64).div_ceil(2)
+}
+
 /// The book of a seed, of the family given or of the one that the seed chooses.
 pub fn make(seed: u64, family: Option<&str>) -> Result<Made, String> {
     let (family, turn, owner) = match family {

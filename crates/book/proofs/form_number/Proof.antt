@@ -1,5 +1,5 @@
 -- `book::form_number` meets its contract. Assumes nothing.
-use Rattle.book.specs.Rows.{formNumber}
+use Rattle.book.specs.Refusals.{formNumber}
 use borrow.Author.Tests.{eq-eqb, ne-eqb, lt-ltb, le-ltb}
 use Rattle.book.proofs.form_number.Statement.{statement}
 use Rattle.book.proofs.form_number.Tie as tie

@@ -1,6 +1,7 @@
 -- `book::Book::new` meets its contract. Assumes nothing.
 use lib.IntN.{pos}
-use Rattle.book.specs.State.{kwSeconds, fresh}
+use Rattle.book.specs.Sums.{kwSeconds}
+use Rattle.book.specs.State.{fresh}
 use Rattle.book.proofs.Sizes.{sums-none}
 use borrow.Author.Needs.{needs}
 use Rattle.book.proofs.Book.new.Statement.{statement}

@@ -7,14 +7,14 @@ use lib.ListN.{length, drop}
 use Rattle.book.specs.declared.Book.{Book}
 use Rattle.book.specs.declared.BookStep.{BookStep}
 use Rattle.book.specs.State.{Ready, fresh}
-use Rattle.book.specs.Run.{after}
-use Rattle.book.specs.List.{secondsIn}
+use Rattle.book.specs.Run.{bookAfter}
+use Rattle.book.specs.List.{listedIn}
 use Rattle.book.proofs.Listed.{seconds-at, seconds-none, after-cons, after-none, ran}
 use Rattle.book.proofs.list.run.Statement.{statement}
 use Rattle.book.proofs.list.run.Tie as tie
 
 abbrev Inv-loop : tie.InvT-loop
-Inv-loop list book₀ at₀ book at = (at ≤ length list) × Ready book × (after fresh (secondsIn list) ≡ after book (secondsIn (drop at list)))
+Inv-loop list book₀ at₀ book at = (at ≤ length list) × Ready book × (bookAfter fresh (listedIn list) ≡ bookAfter book (listedIn (drop at list)))
 
 abbrev μ-loop : tie.MeasureT-loop
 μ-loop list book₀ at₀ book at = length list - at
@@ -23,7 +23,7 @@ new-requires : tie.Need-new-requires Inv-loop μ-loop
 new-requires c κs = search needs
 
 loop-holds : tie.Need-loop-holds Inv-loop μ-loop
-loop-holds c = (omega arith, c .new .ensures .1, ap (λ (k : Book). after k (secondsIn (c .before .before .args .list .now))) (sym (c .new .ensures .0)))
+loop-holds c = (omega arith, c .new .ensures .1, ap (λ (k : Book). bookAfter k (listedIn (c .before .before .args .list .now))) (sym (c .new .ensures .0)))
 
 shared-slice-read-owner : tie.Need-shared-slice-read-owner Inv-loop μ-loop
 shared-slice-read-owner c = search needs
@@ -58,16 +58,16 @@ loop-again c =
       omega arith,
       c .before .second .ensures .ready,
       i .loop .inv .2
-          ∙ ap (after (i .loop .book)) (seconds-at l (i .loop .at) from end (c .before .before .before .before .before .before .loop-test .taken) (c .before .before .before .before .part-start .ensures) (c .before .before .before .part-end .ensures))
+          ∙ ap (bookAfter (i .loop .book)) (seconds-at l (i .loop .at) from end (c .before .before .before .before .before .before .loop-test .taken) (c .before .before .before .before .part-start .ensures) (c .before .before .before .part-end .ensures))
           ∙ after-cons (i .loop .book) _ _
-          ∙ ap (λ (s : BookStep). after (s .book) (secondsIn (drop end l))) (sym (c .before .second .ensures .is)),
+          ∙ ap (λ (s : BookStep). bookAfter (s .book) (listedIn (drop end l))) (sym (c .before .second .ensures .is)),
     )
 
 returns : tie.Need-returns Inv-loop μ-loop
 returns c =
     let l = c .before .before .before .before .args .list .now in
     let i = c .before .loop in
-    ran (secondsIn l) (i .book) (i .inv .2 ∙ ap (after (i .book)) (seconds-none l (i .at) (omega arith)) ∙ after-none (i .book))
+    ran (listedIn l) (i .book) (i .inv .2 ∙ ap (bookAfter (i .book)) (seconds-none l (i .at) (omega arith)) ∙ after-none (i .book))
 
 pub run-spec : {M : Type 1} → statement M
 run-spec =

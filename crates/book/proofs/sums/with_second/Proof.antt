@@ -1,7 +1,8 @@
 -- `book::sums::with_second` meets its contract. Assumes nothing.
 use mathlib.Core.Path.{ap, _∙_}
 use lib.IntN.{ℤ, _+ℤ_}
-use Rattle.book.specs.State.{kwSeconds, sumsWith}
+use Rattle.book.specs.Sums.{kwSeconds}
+use Rattle.book.specs.State.{sumsWith}
 use Rattle.book.proofs.Sizes.{actuals-small, open-small, sum-fits}
 use borrow.Author.Needs.{needs}
 use Rattle.book.proofs.sums.with_second.Statement.{statement}

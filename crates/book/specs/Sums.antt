@@ -1,0 +1,40 @@
+-- The four sums over the accepted seconds (01, "Book second"), each second with those accepted before it.
+use mathlib.Core.List.{[], _∷_}
+use lib.IntN.{ℤ, pos, _+ℤ_}
+use Rattle.row.specs.declared.Row.{Row}
+use Rattle.row.specs.declared.sums.KwSeconds.{KwSeconds}
+use Rattle.row.specs.declared.sums.Sums.{Sums}
+use Rattle.row.specs.Row.{kindsOf, sumActuals}
+use Rattle.book.specs.Seconds.{BookSecond, History, dueOf}
+use Rattle.book.specs.Rows.{unitRowAt, aRowAt, bRowAt}
+
+abbrev pub actualsOf : Row → ℤ
+actualsOf r = sumActuals (kindsOf r)
+
+abbrev pub openOf : Row → Row → Row → ℤ
+openOf u a b = u .«open» .0 +ℤ (a .«open» .0 +ℤ b .«open» .0)
+
+abbrev pub sumOver : (History → BookSecond → ℤ) → History → ℤ
+sumOver f [] = pos 0
+sumOver f (s ∷ h) = sumOver f h +ℤ f h s
+
+-- "A adds the actuals of all kinds in A's row, B those in B's row, open the open of every plant's row."
+abbrev pub sumA : History → ℤ
+sumA h = sumOver (λ p s. actualsOf (aRowAt p s)) h
+
+abbrev pub sumB : History → ℤ
+sumB h = sumOver (λ p s. actualsOf (bRowAt p s)) h
+
+abbrev pub sumOpen : History → ℤ
+sumOpen h = sumOver (λ p s. openOf (unitRowAt p s) (aRowAt p s) (bRowAt p s)) h
+
+-- "Due is read from the bytes of these book seconds"
+abbrev pub sumDue : History → ℤ
+sumDue h = sumOver (λ p s. dueOf (s .bytes)) h
+
+-- all four, as a book keeps them
+abbrev pub kwSeconds : ℤ → KwSeconds
+kwSeconds n = record { 0 = n }
+
+unfoldable pub sumsOf : History → Sums
+sumsOf h = record { a = kwSeconds (sumA h); b = kwSeconds (sumB h); «open» = kwSeconds (sumOpen h); due = kwSeconds (sumDue h) }

@@ -1,0 +1,37 @@
+-- The values hold, by computing. Assumes nothing.
+use mathlib.Core.Path.{refl}
+use Rattle.numbers.specs.Order.{maxZ}
+use Rattle.power.specs.Inward.{upperKw}
+use Rattle.fcr.specs.Setpoint.{setpointOf}
+use Rattle.fcr.specs.Band.{weight, fallen, fallOf, sumTo, limitsAt}
+use Rattle.fcr.specs.Values.{Marked, Values}
+
+pub marked : Marked
+unfolding setpointOf weight fallen fallOf sumTo limitsAt upperKw maxZ
+marked =
+    record {
+      held-400-at-10 = refl;
+      held-400-at-11 = refl;
+      held-400-at-199 = refl;
+      held-400-at-200 = refl;
+      held-333-at-minus-50 = refl;
+      fall-at-age-15 = refl;
+      fall-at-age-16 = refl;
+    }
+
+pub values : Values
+unfolding setpointOf weight fallen fallOf sumTo limitsAt upperKw maxZ
+values =
+    record {
+      marked = marked;
+      held-400-at-minus-10 = refl;
+      held-400-at-minus-11 = refl;
+      held-400-at-201 = refl;
+      held-400-at-minus-201 = refl;
+      held-333-at-50 = refl;
+      fall-at-age-28 = refl;
+      fall-at-age-29 = refl;
+      fall-at-age-30 = refl;
+      two-falls = refl;
+      fall-below = refl;
+    }

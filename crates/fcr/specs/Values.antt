@@ -1,0 +1,51 @@
+-- Values of FCR (01, "Values to hold"), and others at the edges of its rules. The proof is `values` of proofs/Values.antt.
+use Prim.Native.Nat.{ℕ}
+use mathlib.Core.Path.{_≡_}
+use mathlib.Core.List.{List, [], _∷_}
+use lib.IntN.{ℤ, pos, negℤ, _-ℤ_}
+use lib.ListN.{replicate}
+use Rattle.power.specs.declared.kilowatts.Kw.{Kw}
+use Rattle.power.specs.Units.{kw}
+use Rattle.fcr.specs.Setpoint.{setpointOf}
+use Rattle.fcr.specs.Band.{bandAt}
+
+-- the published upper limit less the setpoint, at the setpoint s after the past h
+abbrev pub tolerance : List Kw → ℤ → ℤ → ℤ
+tolerance h s held = bandAt h (kw s) (kw held) .high .0 -ℤ s
+
+-- one fall from 0 to -d, at age a
+abbrev pub fallBy : ℕ → ℤ → ℕ → ℤ
+fallBy d held a = tolerance (replicate a (kw (negℤ (pos d)))) (negℤ (pos d)) held
+
+-- "FCR held 400, one fall 0 to -100" at age a
+abbrev pub fallTolerance : ℕ → ℤ
+fallTolerance a = fallBy 100 (pos 400) a
+
+-- those that document 01 marks with *
+pub record Marked : Type 0 where
+  -- "FCR, held 400: 10 gives 0*, 11 gives -22*, 199 gives -398*, 200 gives -400*. Held 333, deviation -50: 83*."
+  pub held-400-at-10 : setpointOf (pos 400) (pos 10) ≡ pos 0
+  pub held-400-at-11 : setpointOf (pos 400) (pos 11) ≡ negℤ (pos 22)
+  pub held-400-at-199 : setpointOf (pos 400) (pos 199) ≡ negℤ (pos 398)
+  pub held-400-at-200 : setpointOf (pos 400) (pos 200) ≡ negℤ (pos 400)
+  pub held-333-at-minus-50 : setpointOf (pos 333) (negℤ (pos 50)) ≡ pos 83
+  -- "FCR held 400, one fall 0 to -100: upper tolerance 100 at age 15*, 46 at 16*"
+  pub fall-at-age-15 : fallTolerance 15 ≡ pos 100
+  pub fall-at-age-16 : fallTolerance 16 ≡ pos 46
+
+pub record Values : Type 0 where
+  pub marked : Marked
+  -- the other side of the dead band, of full activation and of the cut toward zero
+  pub held-400-at-minus-10 : setpointOf (pos 400) (negℤ (pos 10)) ≡ pos 0
+  pub held-400-at-minus-11 : setpointOf (pos 400) (negℤ (pos 11)) ≡ pos 22
+  pub held-400-at-201 : setpointOf (pos 400) (pos 201) ≡ negℤ (pos 400)
+  pub held-400-at-minus-201 : setpointOf (pos 400) (negℤ (pos 201)) ≡ pos 400
+  pub held-333-at-50 : setpointOf (pos 333) (pos 50) ≡ negℤ (pos 83)
+  -- ".. 20 at 28": 5 % is the larger
+  pub fall-at-age-28 : fallTolerance 28 ≡ pos 20
+  -- nothing held: the last age that weighs something, and the last one
+  pub fall-at-age-29 : fallBy 300 (pos 0) 29 ≡ pos 10
+  pub fall-at-age-30 : fallBy 300 (pos 0) 30 ≡ pos 0
+  -- two falls are summed; one to below s doesn't count
+  pub two-falls : tolerance (kw (negℤ (pos 100)) ∷ []) (negℤ (pos 200)) (pos 0) ≡ pos 200
+  pub fall-below : tolerance (kw (negℤ (pos 100)) ∷ []) (pos 0) (pos 0) ≡ pos 0

@@ -1,0 +1,100 @@
+-- What is printed of a book: from all the bytes of standard input to all those of standard output (01, "Blocks and text" and "When a book is
+-- turned down"). No buffer, read or state stands here.
+use mathlib.Core.List.{List, [], _∷_, _++_, map}
+use Prim.Native.Nat.{ℕ, zero, suc, _+_, _-_, _/_}
+use lib.ListN.{length, take, drop}
+use Rattle.numbers.specs.Rules.{orElse}
+use Rattle.book.specs.Seconds.{BookSecond, History}
+use Rattle.book.specs.Refusals.{numberAt}
+use Rattle.book.specs.Rows.{unitRowAt, aRowAt, bRowAt}
+use Rattle.book.specs.Sums.{sumsOf}
+use Rattle.book.specs.State.{secondOf}
+use Rattle.block.specs.Places.{blockSize, perBlock}
+use Rattle.block.specs.Header.{headerNumber, ownerOf, secondsOf}
+use Rattle.block.specs.Block.{blockNumber, countOf, secondsFrom}
+use Rattle.line.specs.Line.{sumText, refusalText}
+use Rattle.report.specs.declared.Form.{Form}
+use Rattle.report.specs.Text.{linesOf}
+
+-- ---- the seconds that the blocks hold
+
+-- the seconds in turn up to the first block that is refused, and its number, 0 where none is
+pub record Held : Type 0 where
+  pub seconds : List (List ℕ)
+  pub number : ℕ
+
+-- block s, where its number is n and `rest` is what the blocks after it hold
+abbrev pub heldBy : ℕ → List ℕ → Held → Held
+heldBy zero s rest = record { seconds = secondsFrom s 0 (countOf s) ++ rest .seconds; number = rest .number }
+heldBy (suc n) s rest = record { seconds = []; number = suc n }
+
+-- "21 for bytes after the last"
+abbrev pub pastLast : List ℕ → ℕ
+pastLast [] = 0
+pastLast (b ∷ s) = 21
+
+-- the later blocks of a book of t seconds in the bytes s, `left` of them from block n on; "12 for a short block": one that isn't whole is what
+-- is left of s
+unfoldable pub laterBlocks : ℕ → ℕ → ℕ → List ℕ → Held
+laterBlocks t n zero s = record { seconds = []; number = pastLast s }
+laterBlocks t n (suc left) s =
+    heldBy (blockNumber (take blockSize s) t n) (take blockSize s) (laterBlocks t (suc n) left (drop blockSize s))
+
+-- the number of the last block of a book of t seconds: 4 in each, fewer only in the last
+abbrev pub lastBlock : ℕ → ℕ
+lastBlock t = (t + (perBlock - 1)) / perBlock
+
+abbrev pub blocksOf : ℕ → List ℕ → Held
+blocksOf t s = laterBlocks t 1 (lastBlock t) s
+
+-- ---- the seconds judged in turn
+
+-- the lines of those accepted, all accepted seconds, newest first, and the number of the one that is refused, 0 where none is
+pub record Judged : Type 0 where
+  pub text : List ℕ
+  pub past : History
+  pub number : ℕ
+
+-- second s after the past h, where its number is n and `rest` is what the seconds after it give
+abbrev pub judgedBy : ℕ → Form → History → BookSecond → Judged → Judged
+judgedBy zero f h s rest =
+    record {
+      text = linesOf f (length h) (unitRowAt h s) (aRowAt h s) (bRowAt h s) ++ rest .text;
+      past = rest .past;
+      number = rest .number;
+    }
+judgedBy (suc n) f h s rest = record { text = []; past = h; number = suc n }
+
+unfoldable pub judged : Form → History → List BookSecond → Judged
+judged f h [] = record { text = []; past = h; number = 0 }
+judged f h (s ∷ ss) = judgedBy (numberAt h s) f h s (judged f (s ∷ h) ss)
+
+-- ---- the last line
+
+-- "then a sum line"; "A refusal prints `refused N at S` instead of the rest, S being seconds accepted so far."
+abbrev pub lastText : ℕ → History → List ℕ
+lastText zero h = sumText (sumsOf h)
+lastText (suc n) h = refusalText (suc n) (length h)
+
+-- ---- the whole
+
+-- the seconds of the blocks s of a book of owner o and t seconds, judged from a fresh book
+abbrev pub bookSeconds : ℕ → List (List ℕ) → List BookSecond
+bookSeconds o ss = map (secondOf o) ss
+
+abbrev pub judgedIn : Form → ℕ → ℕ → List ℕ → Judged
+judgedIn f o t s = judged f [] (bookSeconds o (blocksOf t s .seconds))
+
+-- the number that ends the text, 0 where a sum line does: the second's that is refused, else the block's
+abbrev pub numberIn : Form → ℕ → ℕ → List ℕ → ℕ
+numberIn f o t s = orElse (judgedIn f o t s .number) (blocksOf t s .number)
+
+abbrev pub printedBy : ℕ → Form → List ℕ → List ℕ → List ℕ
+printedBy zero f head s =
+    judgedIn f (ownerOf head) (secondsOf head) s .text
+    ++ lastText (numberIn f (ownerOf head) (secondsOf head) s) (judgedIn f (ownerOf head) (secondsOf head) s .past)
+printedBy (suc n) f head s = lastText (suc n) []
+
+-- "The program reads a book from standard input and prints a line a second, then a sum line."
+unfoldable pub printed : Form → List ℕ → List ℕ
+printed f s = printedBy (headerNumber (take blockSize s)) f (take blockSize s) (drop blockSize s)

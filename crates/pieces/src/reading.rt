@@ -1,0 +1,158 @@
+// A book taken in pieces of any size: the bytes of a block are gathered in an array until it is whole.
+use crate::standing::Standing;
+use report::Form;
+use report::Verdict;
+ghost use Prim.Native.Nat.{_+_, _≤_, _<_, min};
+ghost use mathlib.Core.Path.{_≡_};
+ghost use mathlib.Core.Bool.{true};
+ghost use lib.ListN.{length};
+ghost use Rattle.codec.specs.Put.{Put};
+ghost use Rattle.line.specs.Widths.{rowRoom};
+ghost use Rattle.block.specs.Places.{blockSize};
+ghost use Rattle.report.specs.Text.{blockRoom};
+ghost use Rattle.pieces.specs.Pieces.{isDue, bytesIn, lastIn, partOf, pieceSize, pieceRoom, ReadingReady, Fitting, Chunked, Takes, IsStart, Wanted};
+
+// The most bytes that are taken at once, and the room that their text asks for, three lines a second.
+pub const PIECE: usize = PIECE_BLOCKS * block::SIZE;
+
+pub const PIECE_ROOM: usize = (PIECE_BLOCKS + 2) * 3 * line::ROW_ROOM * block::PER_BLOCK;
+
+const PIECE_BLOCKS: usize = 32;
+
+// Where a book stands as its bytes come: `filled` bytes of the next block are in `part`.
+pub struct Reading {
+    pub standing: Standing,
+    pub part: [u8; block::SIZE],
+    pub filled: usize,
+}
+
+// Where it stands after a piece, with `used` bytes of text in the buffer.
+pub struct Taken {
+    pub reading: Reading,
+    pub used: usize,
+}
+
+// Where the next bytes of the block that was begun end, of bytes of which `at` are taken.
+fn chunk_end(filled: usize, at: usize, len: usize) -> usize
+    requires { ⌜ (filled < blockSize) × (at < len) ⌝ }
+    ensures { λ r. ⌜ (at < r) × (r ≤ len) × (filled + r ≤ at + blockSize) ⌝ }
+{
+    let missing = block::SIZE - filled;
+    if missing < len - at {
+        at + missing
+    } else {
+        len
+    }
+}
+
+fn at_most_piece(n: usize) -> usize
+    ensures { λ r. ⌜ (r ≡ min n pieceSize) × (r ≤ pieceSize) ⌝ }
+{
+    if n < PIECE { n } else { PIECE }
+}
+
+impl Reading {
+    // Before the first byte.
+    pub fn new(form: Form) -> Reading
+        ensures { λ r. ⌜ IsStart form r ⌝ }
+    {
+        Reading {
+            standing: Standing::new(form),
+            part: [0; block::SIZE],
+            filled: 0,
+        }
+    }
+
+    // How many bytes are to be read next, at most: none after a refusal, one past the last block.
+    pub fn wanted(self) -> usize
+        requires { ⌜ ReadingReady self ⌝ }
+        ensures { λ r. ⌜ Wanted self r ⌝ }
+    {
+        let standing = self.standing;
+        let verdict = standing.verdict;
+        if let Verdict::Refused(_) = verdict {
+            return 0;
+        }
+        if !standing.is_due() {
+            return 1;
+        }
+        at_most_piece(standing.bytes_due() - self.filled)
+    }
+
+    // More bytes of the block that is due; where it is whole then, it is run.
+    fn fill(self, used: usize, bytes: &[u8], out: &mut [u8]) -> Taken
+        requires { ⌜ Fitting self (now bytes) × (isDue (self .standing) ≡ true) × (used + blockRoom ≤ length (now out)) ⌝ }
+        ensures { λ r. ⌜ Chunked self (now (bytes .entry)) (now (out .entry)) (now (out .exit)) used r ⌝ }
+    {
+        let standing = self.standing;
+        let mut part = self.part;
+        let filled = codec::put_bytes(&mut part, self.filled, bytes);
+        if filled < block::SIZE {
+            return Taken {
+                reading: Reading {
+                    standing,
+                    part,
+                    filled,
+                },
+                used,
+            };
+        }
+        let run = standing.block(used, &part, out);
+        let standing = run.standing;
+        Taken {
+            reading: Reading {
+                standing,
+                part,
+                filled: 0,
+            },
+            used: run.used,
+        }
+    }
+
+    // Bytes of the block next in turn, or ones that none is due for.
+    fn chunk(self, used: usize, bytes: &[u8], out: &mut [u8]) -> Taken
+        requires { ⌜ Fitting self (now bytes) × (used + blockRoom ≤ length (now out)) ⌝ }
+        ensures { λ r. ⌜ Chunked self (now (bytes .entry)) (now (out .entry)) (now (out .exit)) used r ⌝ }
+    {
+        let standing = self.standing;
+        if standing.is_due() {
+            return self.fill(used, bytes, out);
+        }
+        let part = self.part;
+        Taken {
+            reading: Reading {
+                standing: standing.beyond(bytes),
+                part,
+                filled: 0,
+            },
+            used,
+        }
+    }
+
+    // The next bytes of the book, of any number up to a piece, and their text from the buffer's first byte on.
+    pub fn take(self, bytes: &[u8], out: &mut [u8]) -> Taken
+        requires { ⌜ ReadingReady self × (length (now bytes) ≤ pieceSize) × (pieceRoom ≤ length (now out)) ⌝ }
+        ensures { λ r. ⌜ Takes pieceRoom (now (out .entry)) (now (out .exit)) 0 r (bytesIn (self .standing) (partOf self) (now (bytes .entry))) ⌝ }
+    {
+        let mut taken = Taken {
+            reading: self,
+            used: 0,
+        };
+        let mut at: usize = 0;
+        while at < bytes.len() {
+            let end = chunk_end(taken.reading.filled, at, bytes.len());
+            taken = taken.reading.chunk(taken.used, &bytes[at..end], out);
+            at = end;
+        }
+        taken
+    }
+
+    // The last line, where the bytes end here.
+    pub fn last_line(self, out: &mut [u8]) -> usize
+        requires { ⌜ ReadingReady self × (pieceRoom ≤ length (now out)) ⌝ }
+        ensures { λ r. ⌜ Put rowRoom (now (out .entry)) (now (out .exit)) 0 r (lastIn (self .standing)) ⌝ }
+    {
+        let standing = self.standing;
+        report::add(out, 0, standing.last_line())
+    }
+}

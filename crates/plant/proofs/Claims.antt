@@ -1,0 +1,218 @@
+-- Every list of plant seconds from a fresh state, and every accepted second's row. Assumes nothing.
+use mathlib.Core.Path.{_≡_, refl, sym, ap, _∙_, subst}
+use mathlib.Core.Bool.{Bool, true, false, not, cond}
+use mathlib.Core.List.{List, [], _∷_}
+use Prim.Native.Nat.{ℕ, zero, suc, _*_, _-_, _^_}
+use native.Mathlib.Omega.{arith}
+use lib.Dec.{T, leb, eqb}
+use lib.IntN.{ℤ, pos}
+use lib.ListN.{length}
+use Rattle.numbers.specs.Bounds.{Within}
+use mir.Syntax.{w32}
+use mir.Val.{SFits, hbits}
+use Rattle.numbers.proofs.Fit.{within-le, within-lit, fits-by}
+use Rattle.power.specs.declared.limits.Limits.{Limits}
+use Rattle.power.specs.Units.{perKw}
+use Rattle.power.specs.Inward.{publishedOf}
+use Rattle.power.proofs.Inside.{upper-within, lower-within}
+use Rattle.record.specs.declared.Record.{Record}
+use Rattle.record.specs.Record.{size, recordOf}
+use Rattle.row.specs.declared.KindRow.{KindRow}
+use Rattle.row.specs.declared.Row.{Row}
+use Rattle.row.specs.Fits.{Kind32, Row32}
+use Rattle.sharing.specs.Claims.{AllPublished}
+use Rattle.sharing.specs.Sizes as sharing
+use Rattle.sharing.proofs.Rows.{row-shared}
+use Rattle.sharing.proofs.Sizes.{less, more, sized}
+use Rattle.fcr.specs.State as fcr
+use Rattle.fcr.proofs.Range.{setpoint-within}
+use Rattle.fcr.proofs.Claims as fcr-claims
+use Rattle.afrr.specs.State as afrr
+use Rattle.mfrr.specs.State as mfrr
+use Rattle.afrr.proofs.Claims as afrr-claims
+use Rattle.mfrr.proofs.Claims as mfrr-claims
+use Rattle.plant.specs.declared.PlantAnswer.{PlantAnswer}
+use Rattle.plant.specs.declared.PlantStep.{PlantStep}
+use Rattle.plant.specs.Seconds.{History, fcrSetpoint, fcrPast, afrrSecond, afrrPast, mfrrSecond, mfrrPast}
+use Rattle.plant.specs.Refusals.{mostPower, recordNumberAt, numberAt, Accepted, grownBy, grown}
+use Rattle.plant.specs.Rows.{kindsWith, kindsAt, rowAt, numberIn, says, saidBy, answerBy, answerAt, sharedDifference, figuresOf}
+use Rattle.plant.specs.State.{stateOf, OverPast, mostAdded, Added, stepIn, Ready}
+use Rattle.plant.specs.Run.{PlantSecond, stateAfter, answers, accepted, answersOver}
+use Rattle.plant.specs.Claims.{kindList, EveryList, RowHolds, Claims}
+use Rattle.plant.proofs.Past.{Clear, clear, ready, fcr-ranged, afrr-second-fair, afrr-fair, mfrr-accepted, over-bytes}
+
+-- ---- one second
+
+-- with no number there is a record, and none applies to it
+pub record-number : (h : History) (s : List ℕ) → numberAt h s ≡ 0 → recordNumberAt h (recordOf s) ≡ 0
+unfolding numberAt recordNumberAt
+record-number h s e = go (eqb (length s) size) e
+  where
+    go : (t : Bool) → cond (not t) 12 (recordNumberAt h (recordOf s)) ≡ 0 → recordNumberAt h (recordOf s) ≡ 0
+    go true e = e
+    go false e = absurd (omega arith)
+
+pub still-accepted : (h : History) (a : Accepted h) (s : List ℕ) → Accepted (grown h s)
+unfolding grown Accepted
+still-accepted h a s = go (numberAt h s) refl
+  where
+    go : (n : ℕ) → numberAt h s ≡ n → Accepted (grownBy n (recordOf s) h)
+    go zero e = (record-number h s e, a)
+    go (suc n) e = a
+
+number-by : (n : ℕ) (r : Row) → numberIn (answerBy n r) ≡ n
+number-by zero r = refl
+number-by (suc n) r = refl
+
+said-by : (n : ℕ) (r : Row) → says (answerBy n r) ≡ saidBy n (figuresOf r)
+said-by zero r = refl
+said-by (suc n) r = refl
+
+pub over-past : (h : History) (a : Accepted h) (s : List ℕ) (m w : ℤ) → OverPast h s m w (stepIn (stateOf h) s m w)
+unfolding answerAt
+over-past h a s m w =
+    let o = over-bytes h a s m w in
+    record {
+      said = ap (λ (p : PlantStep). says (p .answer)) o ∙ said-by (numberAt h s) _;
+      number = ap (λ (p : PlantStep). numberIn (p .answer)) o ∙ number-by (numberAt h s) _;
+      answer = ap (λ (p : PlantStep). p .answer) o;
+      state = ap (λ (p : PlantStep). p .state) o;
+      stays = still-accepted h a s;
+    }
+
+-- ---- a list
+
+module _ where
+  lasts : (ss : List PlantSecond) (h : History) → Accepted h → stateAfter (stateOf h) ss ≡ stateOf (accepted h ss)
+  unfolding stateAfter accepted
+  lasts [] h a = refl
+  lasts (s ∷ ss) h a =
+      let o = over-past h a (s .bytes) (s .added-measured) (s .added-point) in
+      rw (o .state) (lasts ss (grown h (s .bytes)) (o .stays))
+
+  each-answer : (ss : List PlantSecond) (h : History) → Accepted h → answers (stateOf h) ss ≡ answersOver h ss
+  unfolding answers answersOver
+  each-answer [] h a = refl
+  each-answer (s ∷ ss) h a =
+      let o = over-past h a (s .bytes) (s .added-measured) (s .added-point) in
+      rw (o .answer, o .state) (ap (λ (l : List PlantAnswer). answerAt h (s .bytes) (s .added-measured) (s .added-point) ∷ l) (each-answer ss (grown h (s .bytes)) (o .stays)))
+
+  all-accepted : (ss : List PlantSecond) (h : History) → Accepted h → Accepted (accepted h ss)
+  unfolding accepted
+  all-accepted [] h a = a
+  all-accepted (s ∷ ss) h a = all-accepted ss (grown h (s .bytes)) (still-accepted h a (s .bytes))
+
+pub also-accepted : (h : History) (x : Record) → recordNumberAt h x ≡ 0 → Accepted h → Accepted (x ∷ h)
+unfolding Accepted
+also-accepted h x e a = (e, a)
+
+pub none-accepted : Accepted []
+unfolding Accepted
+none-accepted = tt
+
+pub every-list : (ss : List PlantSecond) → EveryList ss
+every-list ss =
+    let a = all-accepted ss [] none-accepted in
+    record {
+      last = lasts ss [] none-accepted;
+      each = each-answer ss [] none-accepted;
+      accepted-all = a;
+      ready = subst Ready (sym (lasts ss [] none-accepted)) (ready (accepted [] ss) a);
+    }
+
+-- ---- an accepted second's row
+
+-- the largest measured - working point that sharing takes
+abbrev mostDifference : ℕ
+mostDifference = 2 * sharing.mostShared
+
+-- a row that is small enough fits
+small-fits : (r : Row) → sharing.SizedRow mostDifference r → Row32 r
+small-fits r h =
+    record { fcr = kind (r .fcr) (h .fcr); afrr = kind (r .afrr) (h .afrr); mfrr = kind (r .mfrr) (h .mfrr); «open» = small _ _ (h .open-within) tt }
+  where
+    small : (B : ℕ) (z : ℤ) → Within B z → T (leb B (2 ^ hbits w32 - 1)) → SFits w32 z
+    small B z h t = fits-by w32 z (within-le B (2 ^ hbits w32 - 1) z h t)
+
+    kind : (k : KindRow) → sharing.SizedKindRow mostDifference k → Kind32 k
+    kind k h =
+        record {
+          setpoint = small _ _ (h .setpoint) tt;
+          low = small _ _ (h .low) tt;
+          high = small _ _ (h .high) tt;
+          share = small _ _ (h .share) tt;
+          actual = small _ _ (h .actual) tt;
+        }
+
+module _ (h : History) (a : Accepted h) (x : Record) (accepted-x : recordNumberAt h x ≡ 0) where
+  cleared : Clear h x
+  cleared = clear h x accepted-x
+
+  all-published : AllPublished (kindList h x)
+  unfolding kindsAt kindsWith
+  all-published =
+      let p = cleared .passed-1-to-7 in (
+        (λ on. fcr-claims.claims .published (fcrPast h) (fcrSetpoint x) (x .«fcr_held») (p .fcr-held .sign)),
+        (
+          (λ on. afrr-claims.claims .published (afrrPast h) (afrrSecond x) (afrr-second-fair (length h) x p)),
+          ((λ on. mfrr-claims.claims .published (mfrrPast h) (mfrrSecond x)), tt),
+        ),
+      )
+
+  -- a published band is as small as its limits
+  band-sized : (B : ℕ) (l : Limits) → T (leb B sharing.mostLimit) → Within (B * perKw) (l .lower .0) → Within (B * perKw) (l .upper .0) → Within sharing.mostLimit (publishedOf l .low .0) × Within sharing.mostLimit (publishedOf l .high .0)
+  band-sized B l t p q = (within-le B sharing.mostLimit _ (lower-within B _ p) t, within-le B sharing.mostLimit _ (upper-within B _ q) t)
+
+  kinds-sized : sharing.SizedKinds (kindsAt h x .fcr) (kindsAt h x .afrr) (kindsAt h x .mfrr)
+  unfolding kindsAt kindsWith
+  kinds-sized =
+      let p = cleared .passed-1-to-7 in
+      let s = setpoint-within _ (x .deviation .0) (p .fcr-held .range) in
+      let fair : fcr.Fair (fcrSetpoint x) (x .«fcr_held») = record { setpoint-range = s; held-range = p .fcr-held .range; held-sign = p .fcr-held .sign } in
+      let all : afrr.AllFair (afrrPast (x ∷ h)) = (afrr-second-fair (length h) x p, afrr-fair h a) in
+      let f = band-sized fcr.mostLimit _ tt (fcr-claims.claims .lower-small (fcrPast h) (fcrSetpoint x) (x .«fcr_held») (fcr-ranged h a) fair) (fcr-claims.claims .upper-small (fcrPast h) (fcrSetpoint x) (x .«fcr_held») (fcr-ranged h a) fair) in
+      let b = band-sized afrr.mostLimit _ tt (afrr-claims.claims .lower-small (afrrPast (x ∷ h)) all) (afrr-claims.claims .upper-small (afrrPast (x ∷ h)) all) in
+      let g = mfrr-claims.claims .range (mfrrPast h) (mfrrSecond x) (mfrr-accepted (x ∷ h) (also-accepted h x accepted-x a)) in
+      record {
+        fcr = record { setpoint = s; low = f .0; high = f .1 };
+        afrr = record { setpoint = p .afrr-setpoint; low = b .0; high = b .1 };
+        mfrr = record { setpoint = g .setpoint-range; low = within-le mfrr.mostLimit sharing.mostLimit _ (g .small .0) tt; high = within-le mfrr.mostLimit sharing.mostLimit _ (g .small .1) tt };
+      }
+
+  -- measured and working point, as shared
+  difference-sized : (m w : ℤ) → Added m w → Within mostDifference (sharedDifference x m w)
+  difference-sized m w d =
+      let p = cleared .passed-1-to-7 in
+      less sharing.mostShared sharing.mostShared mostDifference _ _ (omega arith)
+      (more mostPower mostAdded sharing.mostShared _ m (omega arith) (p .measured) (d .measured))
+      (more mostPower mostPower sharing.mostShared _ w (omega arith) (p .working-point) (d .working-point))
+
+  pub row-holds : (m w : ℤ) → RowHolds h x m w
+  unfolding rowAt
+  row-holds m w =
+      let k = kindsAt h x in
+      let r = row-shared (sharedDifference x m w) (k .fcr) (k .afrr) (k .mfrr) in
+      record {
+        balance = r .balance;
+        whole = r .whole;
+        within = r .within all-published;
+        sized = λ D d. sized D (sharedDifference x m w) (k .fcr) (k .afrr) (k .mfrr) d kinds-sized;
+      }
+
+  pub row-fits : (m w : ℤ) → Added m w → Row32 (rowAt h x m w)
+  row-fits m w d = small-fits _ (row-holds m w .sized mostDifference (difference-sized m w d))
+
+-- nothing is added
+pub none-added : Added (pos 0) (pos 0)
+none-added = record { measured = within-lit mostAdded (pos 0) tt; working-point = within-lit mostPower (pos 0) tt }
+
+-- ---- all of it
+
+pub claims : Claims
+claims =
+    record {
+      every-list = every-list;
+      over-past = λ h a s m w. over-past h a s m w;
+      row-holds = λ h a x e m w. row-holds h a x e m w;
+      fits = λ h a x e. row-fits h a x e (pos 0) (pos 0) none-added;
+    }

@@ -1,0 +1,98 @@
+-- One list of rules in three groups: over the past, and at any state. Assumes nothing.
+use mathlib.Core.Path.{_≡_, refl, sym, ap, _∙_}
+use mathlib.Core.Bool.{Bool, true, false, not, cond}
+use mathlib.Core.List.{List, _++_}
+use Prim.Native.Nat.{ℕ, zero, suc}
+use lib.Dec.{eqb}
+use lib.IntN.{ℤ}
+use lib.ListN.{length}
+use Rattle.numbers.specs.Rules.{Rule, first, orElse}
+use Rattle.numbers.proofs.Rules.{numbered, first-append}
+use Rattle.power.specs.declared.limits.Band.{Band}
+use Rattle.power.specs.Inward.{publishedOf}
+use Rattle.record.specs.declared.Record.{Record}
+use Rattle.record.specs.declared.Reading.the-variants as reading
+use Rattle.record.specs.Record.{size, recordOf, readingOf, bitsOf}
+use Rattle.mfrr.specs.Signal as mfrr-signal
+use Rattle.mfrr.specs.Refusals as mfrr-refusals
+use Rattle.mfrr.specs.declared.MfrrState.{MfrrState}
+use Rattle.mfrr.specs.State as mfrr
+use Rattle.plant.specs.declared.PlantState.{PlantState}
+use Rattle.plant.specs.declared.Setpoints.{Setpoints}
+use Rattle.plant.specs.Seconds.{mfrrSecond, setpointsWith}
+use Rattle.plant.specs.Refusals.{recordRules, recordNumber, offRules, offNumber, rulesWith}
+use Rattle.plant.specs.Rows.{numberIn}
+use Rattle.plant.specs.State.{callRulesIn, mfrrSetpointIn, recordRulesIn, rulesIn, kindsIn, acceptedIn, stepBy, givenIn, kindsStepIn, callStepIn, recordStepIn, readIn, stepIn}
+
+pub in-parts :
+    (t : ℕ) (x : Record) (calls : List Rule) (s : Setpoints) → numbered calls ≡ true
+    → first (rulesWith t x calls s) ≡ orElse (recordNumber t x) (orElse (first calls) (offNumber (bitsOf (x .status)) s))
+unfolding recordNumber offNumber
+in-parts t x calls s n =
+    first-append (recordRules t x) (calls ++ offRules (bitsOf (x .status)) s) refl
+    ∙ ap (orElse (recordNumber t x)) (first-append calls (offRules (bitsOf (x .status)) s) n)
+
+-- ---- at any state the number of a second is the first of them
+
+call-first : (s : MfrrState) (t : ℕ) (y : mfrr-signal.MfrrSecond) → first (callRulesIn s t y) ≡ mfrr.refusalIn s t y
+unfolding mfrr.refusalIn mfrr.numberOf callRulesIn
+call-first s t mfrr-signal.quiet = refl
+call-first s t (mfrr-signal.call e D) = refl
+
+call-numbered : (s : MfrrState) (t : ℕ) (y : mfrr-signal.MfrrSecond) → numbered (callRulesIn s t y) ≡ true
+unfolding callRulesIn mfrr-refusals.callRules
+call-numbered s t mfrr-signal.quiet = refl
+call-numbered s t (mfrr-signal.call e D) = refl
+
+module _ (st : PlantState) (x : Record) where
+  abbrev taken : MfrrState
+  taken = mfrr.takenIn (st .mfrr) (st .seconds) (mfrrSecond x)
+
+  abbrev band : Band
+  band = publishedOf (mfrr.limitsNow taken)
+
+  abbrev callNumberIn : ℕ
+  callNumberIn = mfrr.refusalIn (st .mfrr) (st .seconds) (mfrrSecond x)
+
+  abbrev offNumberIn : ℕ
+  offNumberIn = offNumber (bitsOf (x .status)) (setpointsWith x (mfrrSetpointIn st x))
+
+  parts : first (recordRulesIn st x) ≡ orElse (recordNumber (st .seconds) x) (orElse callNumberIn offNumberIn)
+  parts =
+      in-parts (st .seconds) x (callRulesIn (st .mfrr) (st .seconds) (mfrrSecond x)) (setpointsWith x (mfrrSetpointIn st x)) (call-numbered (st .mfrr) (st .seconds) (mfrrSecond x))
+      ∙ ap (λ (n : ℕ). orElse (recordNumber (st .seconds) x) (orElse n offNumberIn)) (call-first (st .mfrr) (st .seconds) (mfrrSecond x))
+
+  module _ (m w : ℤ) where
+    by-off : numberIn (kindsStepIn st x (mfrrSetpointIn st x) band (mfrr.acceptedIn taken .state) m w .answer) ≡ offNumberIn
+    unfolding kindsStepIn
+    by-off = go offNumberIn
+      where
+        go : (n : ℕ) → numberIn (stepBy n st (acceptedIn st x (kindsIn st x (mfrrSetpointIn st x) band) (mfrr.acceptedIn taken .state) m w) .answer) ≡ n
+        go zero = refl
+        go (suc n) = refl
+
+    by-call : numberIn (callStepIn st x m w .answer) ≡ orElse callNumberIn offNumberIn
+    unfolding callStepIn mfrr.stepIn mfrr.stepBy mfrr.acceptedIn
+    by-call = go callNumberIn
+      where
+        go : (n : ℕ)
+            → numberIn (givenIn (mfrr.stepBy n (st .mfrr) (mfrr.acceptedIn taken) .answer) (mfrr.stepBy n (st .mfrr) (mfrr.acceptedIn taken) .state) st x m w .answer)
+            ≡ orElse n offNumberIn
+        go zero = by-off
+        go (suc n) = refl
+
+    at-record : numberIn (recordStepIn st x m w .answer) ≡ first (recordRulesIn st x)
+    unfolding recordStepIn
+    at-record = go (recordNumber (st .seconds) x) ∙ sym parts
+      where
+        go : (n : ℕ) → numberIn (stepBy n st (callStepIn st x m w) .answer) ≡ orElse n (orElse callNumberIn offNumberIn)
+        go zero = by-call
+        go (suc n) = refl
+
+pub at-any-state : (st : PlantState) (s : List ℕ) (m w : ℤ) → numberIn (stepIn st s m w .answer) ≡ first (rulesIn st s)
+unfolding stepIn readingOf
+at-any-state st s m w = go (eqb (length s) size)
+  where
+    go : (t : Bool) → numberIn (readIn (cond t (reading.Fields (recordOf s)) (reading.Refused 12)) st m w .answer) ≡ cond (not t) 12 (first (recordRulesIn st (recordOf s)))
+    go true = at-record st (recordOf s) m w
+    go false = refl

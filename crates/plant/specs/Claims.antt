@@ -1,0 +1,57 @@
+-- What is claimed of a plant second: of every list from a fresh state, and of every accepted second's row. The proof is `claims` of
+-- proofs/Claims.antt.
+use Prim.Native.Nat.{ℕ, _≤_}
+use mathlib.Core.Path.{_≡_}
+use mathlib.Core.Logic.{_↔_}
+use mathlib.Core.Bool.{true}
+use mathlib.Core.List.{List, []}
+use lib.IntN.{ℤ, pos, natAbs, _+ℤ_}
+use Rattle.numbers.specs.Bounds.{Within}
+use Rattle.record.specs.declared.Record.{Record}
+use Rattle.row.specs.Fits.{Row32}
+use Rattle.row.specs.Row.{kindsOf, AllInBand, sumActuals}
+use Rattle.sharing.specs.declared.kinds.Kind.{Kind}
+use Rattle.sharing.specs.Sizes.{SizedRow}
+use Rattle.sharing.specs.Shares.{someOn}
+use Rattle.sharing.specs.Rows.{kindsOn, errorOf, totalOf, three}
+use Rattle.plant.specs.Seconds.{History}
+use Rattle.plant.specs.Refusals.{recordNumberAt, Accepted}
+use Rattle.plant.specs.Rows.{kindsAt, sharedDifference, rowAt}
+use Rattle.plant.specs.State.{stateOf, OverPast, Ready, stepIn}
+use Rattle.plant.specs.Run.{PlantSecond, stateAfter, answers, accepted, answersOver}
+
+-- the past that the definitions see is exactly the accepted seconds
+pub record EveryList (ss : List PlantSecond) : Type 0 where
+  pub last : stateAfter (stateOf []) ss ≡ stateOf (accepted [] ss)
+  pub each : answers (stateOf []) ss ≡ answersOver [] ss
+  pub accepted-all : Accepted (accepted [] ss)
+  pub ready : Ready (stateAfter (stateOf []) ss)
+
+-- the second's kinds as a list, its error and T
+abbrev pub kindList : History → Record → List Kind
+kindList h x = three (kindsAt h x .fcr) (kindsAt h x .afrr) (kindsAt h x .mfrr)
+
+abbrev pub errorAt : History → Record → ℤ → ℤ → ℤ
+errorAt h x m w = errorOf (sharedDifference x m w) (kindList h x)
+
+abbrev pub totalAt : History → Record → ℤ → ℤ → ℕ
+totalAt h x m w = totalOf (sharedDifference x m w) (kindList h x)
+
+-- what holds of an accepted second's row
+pub record RowHolds (h : History) (x : Record) (m w : ℤ) : Type 0 where
+  -- the actual values and open make up measured - working point as shared
+  pub balance : sumActuals (kindsOf (rowAt h x m w)) +ℤ rowAt h x m w .«open» .0 ≡ sharedDifference x m w
+  -- wherever a kind is on, the actual values do so by themselves, and "all kinds lie within their bands exactly when the error lies within the
+  -- summed bands"
+  pub whole : someOn (kindsOn (kindList h x)) ≡ true → sumActuals (kindsOf (rowAt h x m w)) ≡ sharedDifference x m w
+  pub within : someOn (kindsOn (kindList h x)) ≡ true → AllInBand (kindsOf (rowAt h x m w)) ↔ (natAbs (errorAt h x m w) ≤ totalAt h x m w)
+  -- where measured - working point, as shared, is within D, no figure is above D and four times the largest reserve
+  pub sized : (D : ℕ) → Within D (sharedDifference x m w) → SizedRow D (rowAt h x m w)
+
+pub record Claims : Type 0 where
+  pub every-list : (ss : List PlantSecond) → EveryList ss
+  -- one second at the state that accepted seconds leave
+  pub over-past : (h : History) → Accepted h → (s : List ℕ) (m w : ℤ) → OverPast h s m w (stepIn (stateOf h) s m w)
+  pub row-holds : (h : History) → Accepted h → (x : Record) → recordNumberAt h x ≡ 0 → (m w : ℤ) → RowHolds h x m w
+  -- "A row's figures are signed 32-bit numbers", where sharing adds nothing; a book's rows in `book/Claims`
+  pub fits : (h : History) → Accepted h → (x : Record) → recordNumberAt h x ≡ 0 → Row32 (rowAt h x (pos 0) (pos 0))
