@@ -15,6 +15,8 @@ pub use block_writer::write_block;
 pub use header_block::read_header;
 pub use header_writer::write_header;
 pub use later_block::PER_BLOCK;
+pub use later_block::body;
+pub use later_block::last_block;
 pub use later_block::read_block;
 pub use later_block::second;
 
