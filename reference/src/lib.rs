@@ -15,3 +15,4 @@ pub mod power;
 pub mod program;
 pub mod record;
 pub mod sharing;
+pub mod short;

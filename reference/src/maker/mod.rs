@@ -1,6 +1,7 @@
 //! Books by seed, for comparing programs.
 
 pub mod broken;
+pub mod example;
 pub mod families;
 pub mod random;
 pub mod tracks;
