@@ -7,7 +7,7 @@ use crate::plant::Row;
 use std::io::{self, Read, Write};
 
 /// The next bytes of the input, at most `most`; fewer only at its end.
-fn next_bytes(input: &mut impl Read, most: usize) -> io::Result<Vec<u8>> {
+pub fn next_bytes(input: &mut impl Read, most: usize) -> io::Result<Vec<u8>> {
     let mut bytes = Vec::with_capacity(most);
     input.take(most as u64).read_to_end(&mut bytes)?;
     Ok(bytes)
