@@ -88,25 +88,42 @@ pub fn seal(bytes: &mut [u8]) {
     bytes[508..512].copy_from_slice(&sum.to_le_bytes());
 }
 
-pub fn write_header(owner: u8, seconds: u32) -> [u8; LENGTH] {
-    let mut bytes = [0; LENGTH];
-    bytes[0..4].copy_from_slice(b"RLIW");
-    bytes[4] = 1;
-    bytes[6] = owner;
-    bytes[8..12].copy_from_slice(&seconds.to_le_bytes());
-    seal(&mut bytes);
-    bytes
+/// The header writer: the whole buffer becomes the header, or a refusal number leaves it as found.
+pub fn write_header(buffer: &mut [u8], owner: u8, seconds: u32) -> Result<(), u8> {
+    if buffer.len() != LENGTH {
+        return Err(12);
+    }
+    if owner > 7 {
+        return Err(16);
+    }
+    if seconds == 0 || seconds > MOST_SECONDS as u32 {
+        return Err(17);
+    }
+    buffer.fill(0);
+    buffer[0..4].copy_from_slice(b"RLIW");
+    buffer[4..6].copy_from_slice(&1u16.to_le_bytes());
+    buffer[6] = owner;
+    buffer[8..12].copy_from_slice(&seconds.to_le_bytes());
+    seal(buffer);
+    Ok(())
 }
 
-/// A block of one to four seconds.
-pub fn write_block(number: u32, seconds: &[[u8; book::LENGTH]]) -> [u8; LENGTH] {
-    let mut bytes = [0; LENGTH];
-    bytes[0..4].copy_from_slice(&number.to_le_bytes());
-    bytes[4] = seconds.len() as u8;
-    for (k, second) in seconds.iter().enumerate() {
-        let at = FIRST + k * book::LENGTH;
-        bytes[at..at + book::LENGTH].copy_from_slice(second);
+/// The block writer, of the bytes of one to four seconds; it cannot know how many are due.
+pub fn write_block(buffer: &mut [u8], number: u32, seconds: &[u8]) -> Result<(), u8> {
+    if buffer.len() != LENGTH {
+        return Err(12);
     }
-    seal(&mut bytes);
-    bytes
+    if number == 0 {
+        return Err(19);
+    }
+    let count = seconds.len() / book::LENGTH;
+    if seconds.len() % book::LENGTH != 0 || count < 1 || count > MOST {
+        return Err(23);
+    }
+    buffer.fill(0);
+    buffer[0..4].copy_from_slice(&number.to_le_bytes());
+    buffer[4] = count as u8;
+    buffer[FIRST..FIRST + seconds.len()].copy_from_slice(seconds);
+    seal(buffer);
+    Ok(())
 }

@@ -1,4 +1,4 @@
-//! The other program: written from document 01 and document 004 alone, with the standard library alone.
+//! The other program: written from documents 01, 02 and 004 alone, with the standard library alone.
 //!
 //! It looks at whole windows each second and keeps whole pasts. Powers are whole kW in `i64`; limits are
 //! grains of 1/540 kW in `i64`, so that every division named in document 01 is exact or done where 01 does it.
@@ -6,6 +6,7 @@
 pub mod afrr;
 pub mod block;
 pub mod book;
+pub mod copy;
 pub mod fcr;
 pub mod line;
 pub mod maker;
@@ -15,3 +16,4 @@ pub mod power;
 pub mod program;
 pub mod record;
 pub mod sharing;
+pub mod short;

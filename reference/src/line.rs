@@ -3,7 +3,7 @@
 use crate::book::Sums;
 use crate::plant::Row;
 
-const NAMES: [&str; 3] = ["U", "A", "B"];
+pub const NAMES: [&str; 3] = ["U", "A", "B"];
 
 /// `0 U -79 10 0 0 A -79 0 0 0 B 0 30 0 0`
 pub fn second_line(second: usize, rows: &[Row; 3]) -> String {

@@ -7,7 +7,7 @@ use crate::plant::Row;
 use std::io::{self, Read, Write};
 
 /// The next bytes of the input, at most `most`; fewer only at its end.
-fn next_bytes(input: &mut impl Read, most: usize) -> io::Result<Vec<u8>> {
+pub fn next_bytes(input: &mut impl Read, most: usize) -> io::Result<Vec<u8>> {
     let mut bytes = Vec::with_capacity(most);
     input.take(most as u64).read_to_end(&mut bytes)?;
     Ok(bytes)
@@ -31,12 +31,25 @@ impl From<io::Error> for Stop {
     }
 }
 
-type Lines = fn(usize, &[Row; 3]) -> String;
+/// What is printed of a book: lines of each accepted second, and lines before the sum line or the refusal.
+pub trait Form {
+    fn of_second(&mut self, second: usize, rows: &[Row; 3]) -> String;
+
+    fn before_last(&self) -> String {
+        String::new()
+    }
+}
+
+impl<F: Fn(usize, &[Row; 3]) -> String> Form for F {
+    fn of_second(&mut self, second: usize, rows: &[Row; 3]) -> String {
+        self(second, rows)
+    }
+}
 
 fn run_seconds(
     input: &mut impl Read,
     output: &mut impl Write,
-    lines: Lines,
+    form: &mut impl Form,
     book: &mut Book,
     accepted: &mut usize,
 ) -> Result<(), Stop> {
@@ -47,7 +60,7 @@ fn run_seconds(
         let seconds = read_block(&bytes, header.seconds, number)?;
         for second in seconds.chunks(book::LENGTH) {
             let rows = book.second(header.owner, second).map_err(|refusal| refusal.number)?;
-            output.write_all(lines(*accepted, &rows).as_bytes())?;
+            output.write_all(form.of_second(*accepted, &rows).as_bytes())?;
             *accepted += 1;
         }
     }
@@ -57,31 +70,33 @@ fn run_seconds(
     Ok(())
 }
 
-/// Reads a book and prints `lines` of each accepted second, then the sum line or the refusal.
-pub fn run(input: &mut impl Read, output: &mut impl Write, lines: Lines) -> io::Result<()> {
+/// Reads a book and prints it in a form; the last line is the sum line or the refusal.
+pub fn run(input: &mut impl Read, output: &mut impl Write, mut form: impl Form) -> io::Result<()> {
     let mut book = Book::default();
     let mut accepted = 0;
-    match run_seconds(input, output, lines, &mut book, &mut accepted) {
-        Ok(()) => output.write_all(sum_line(&book.sums).as_bytes())?,
-        Err(Stop::Refused(number)) => output.write_all(refusal_line(number, accepted).as_bytes())?,
+    let last = match run_seconds(input, output, &mut form, &mut book, &mut accepted) {
+        Ok(()) => sum_line(&book.sums),
+        Err(Stop::Refused(number)) => refusal_line(number, accepted),
         Err(Stop::Failed(error)) => return Err(error),
-    }
+    };
+    output.write_all(form.before_last().as_bytes())?;
+    output.write_all(last.as_bytes())?;
     output.flush()
 }
 
 /// The same from standard input to standard output.
-pub fn run_standard(lines: Lines) {
+pub fn run_standard(form: impl Form) {
     let mut input = io::BufReader::with_capacity(1 << 16, io::stdin().lock());
     let mut output = io::BufWriter::with_capacity(1 << 16, io::stdout().lock());
-    if let Err(error) = run(&mut input, &mut output, lines) {
+    if let Err(error) = run(&mut input, &mut output, form) {
         eprintln!("{}", error);
         std::process::exit(1);
     }
 }
 
 /// The whole output for a book in memory.
-pub fn output_of(bytes: &[u8], lines: Lines) -> String {
+pub fn output_of(bytes: &[u8], form: impl Form) -> String {
     let mut output = Vec::new();
-    run(&mut &bytes[..], &mut output, lines).expect("memory does not fail");
+    run(&mut &bytes[..], &mut output, form).expect("memory does not fail");
     String::from_utf8(output).expect("lines are text")
 }

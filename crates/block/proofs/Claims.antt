@@ -13,7 +13,7 @@ use Rattle.block.specs.Check.{checkOf}
 use Rattle.block.specs.Said.{values, answered}
 use Rattle.block.specs.Header.{name, ownerOf, secondsOf, headerOf}
 use Rattle.block.specs.Block.{countOf, dueIn, blockOf, secondOf}
-use Rattle.block.specs.Layout.{closed, headerBytes, countIn, blockBytes, bodyOf, HeaderLayout, BlockLayout}
+use Rattle.block.specs.Layout.{closed, headerFront, countIn, blockFront, blockBytes, bodyOf, HeaderLayout, BlockLayout}
 use Rattle.block.specs.Claims.{Claims}
 use Rattle.block.proofs.Parts.{part-cons, part-split, part-length, zero-part, all-zeros, four-of, four, closed-length, closed-check, closes}
 use Rattle.block.proofs.Taken.{TakenHeader, TakenBlock, header-zero, block-zero, header-fields, block-fields, due-most}
@@ -24,19 +24,19 @@ split s a b c h k l = part-split s 0 a checkAt (omega arith) (omega arith) ∙ a
 
 -- ---- later blocks
 
--- bytes 0 to 507 of block n, and what `blockBytes` makes of k seconds
-blockFront : ℕ → ℕ → List ℕ → List ℕ
-blockFront n k body = le4 n ++ ((k ∷ zeros (bodyAt - countEnd)) ++ (body ++ zeros (checkAt - secondAt k)))
+-- bytes 0 to 507 of block n where its seconds are k
+frontWith : ℕ → ℕ → List ℕ → List ℕ
+frontWith n k body = le4 n ++ ((k ∷ zeros (bodyAt - countEnd)) ++ (body ++ zeros (checkAt - secondAt k)))
 
-made : (n k : ℕ) (body : List ℕ) → length body ≡ secondSize * k → blockBytes n body ≡ closed (blockFront n k body)
-unfolding blockBytes blockFront
+made : (n k : ℕ) (body : List ℕ) → length body ≡ secondSize * k → blockBytes n body ≡ closed (frontWith n k body)
+unfolding blockFront frontWith
 made n k body size =
     let count : countIn body ≡ k = omega arith in
     let end : checkAt - (bodyAt + length body) ≡ checkAt - secondAt k = omega arith in
     rw (count, end)
 
 block-taken : (s : List ℕ) (seconds n k : ℕ) → Bytes s → blockOf s seconds n ≡ values (k ∷ []) → BlockLayout s seconds n k
-unfolding blockFront
+unfolding frontWith
 block-taken s seconds n k b e =
     let f = block-fields s seconds n k e in
     let t = f .0 in
@@ -47,7 +47,7 @@ block-taken s seconds n k b e =
     let head : part s numberAt countAt ≡ le4 n = four s numberAt (omega arith) b ∙ ap le4 (t .number) in
     let count : part s countAt bodyAt ≡ k ∷ zeros (bodyAt - countEnd) = part-cons s countAt bodyAt (omega arith) (omega arith) ∙ ap (λ (x : ℕ). x ∷ part s countEnd bodyAt) (sym (f .1)) ∙ ap (λ (l : List ℕ). k ∷ l) (zero-part s countEnd bodyAt (omega arith) (t .spare)) in
     let unused : part s end checkAt ≡ zeros (checkAt - end) = zero-part s end checkAt (omega arith) (rw due (t .unused)) in
-    let front : part s 0 checkAt ≡ blockFront n k (bodyOf s k) = split s countAt bodyAt end (omega arith) (omega arith) (omega arith) ∙ (cc) in
+    let front : part s 0 checkAt ≡ frontWith n k (bodyOf s k) = split s countAt bodyAt end (omega arith) (omega arith) (omega arith) ∙ (cc) in
     let size : length (bodyOf s k) ≡ secondSize * k = part-length s bodyAt end (omega arith) ∙ (omega arith) in
     record {
       due = due;
@@ -62,15 +62,15 @@ module _ (seconds n k : ℕ) (body : List ℕ) (size : length body ≡ secondSiz
   few = let h = due-most seconds n in omega arith
 
   block-front : List ℕ
-  block-front = blockFront n k body
+  block-front = frontWith n k body
 
   front-length : length block-front ≡ checkAt
-  unfolding block-front blockFront
+  unfolding block-front frontWith
   front-length = let h = few in simp (length-append, length-replicate) (omega arith)
 
   -- what follows the seconds' bytes
   after-body : part (closed block-front) (secondAt k) checkAt ≡ zeros (checkAt - secondAt k)
-  unfolding block-front blockFront
+  unfolding block-front frontWith
   after-body =
       let h = few in
       let m = checkAt - secondAt k in
@@ -82,7 +82,7 @@ module _ (seconds n k : ℕ) (body : List ℕ) (size : length body ≡ secondSiz
       ∙ take-at (zeros m) y m (length-replicate m 0)
 
   laid-block : 0 < k → 0 < n → TakenBlock (closed block-front) seconds n
-  unfolding block-front blockFront allZero
+  unfolding block-front frontWith allZero
   laid-block some one =
       record {
         len = closed-length block-front front-length;
@@ -96,7 +96,7 @@ module _ (seconds n k : ℕ) (body : List ℕ) (size : length body ≡ secondSiz
       }
 
   given-block : 0 < k → 0 < n → blockOf (closed block-front) seconds n ≡ values (k ∷ [])
-  unfolding block-front blockFront
+  unfolding block-front frontWith
   given-block some one = ap (λ (m : ℕ). answered m (countOf (closed block-front) ∷ [])) (block-zero (closed block-front) seconds n (laid-block some one))
 
 block-given : (s : List ℕ) (seconds n k : ℕ) → BlockLayout s seconds n k → blockOf s seconds n ≡ values (k ∷ [])
@@ -114,7 +114,7 @@ next-four s h b v z =
     four-of s versionAt h ∙ (cc)
 
 header-taken : (s : List ℕ) (owner seconds : ℕ) → Bytes s → headerOf s ≡ values (owner ∷ seconds ∷ []) → HeaderLayout s owner seconds
-unfolding headerBytes
+unfolding headerFront
 header-taken s owner seconds b e =
     let f = header-fields s owner seconds e in
     let t = f .0 in
@@ -125,16 +125,16 @@ header-taken s owner seconds b e =
     let flags = next-four s (omega arith) b (t .version-is) (t .spare-byte) in
     let count : part s bookSecondsAt headerEnd ≡ le4 (secondsOf s) = four s bookSecondsAt (omega arith) b in
     let none : part s headerEnd checkAt ≡ zeros (checkAt - headerEnd) = zero-part s headerEnd checkAt (omega arith) (t .spare) in
-    let front : part s 0 checkAt ≡ name ++ ((version ∷ 0 ∷ owner ∷ 0 ∷ []) ++ (le4 seconds ++ zeros (checkAt - headerEnd))) =
+    let front : part s 0 checkAt ≡ headerFront owner seconds =
     split s versionAt bookSecondsAt headerEnd (omega arith) (omega arith) (omega arith)
     ∙ (λ i. head i ++ (flags i ++ (count i ++ none i)))
     ∙ (λ i. name ++ ((version ∷ 0 ∷ sym o i ∷ 0 ∷ []) ++ (le4 (sym p i) ++ zeros (checkAt - headerEnd)))) in
     record { owners = rw o (t .owners); some = rw p (t .some); most = rw p (t .most); bytes = closes s len b (t .check) ∙ ap closed front }
 
 header-given : (s : List ℕ) (owner seconds : ℕ) → HeaderLayout s owner seconds → headerOf s ≡ values (owner ∷ seconds ∷ [])
-unfolding headerBytes allZero
+unfolding headerFront allZero
 header-given s owner seconds l =
-    let front = name ++ ((version ∷ 0 ∷ owner ∷ 0 ∷ []) ++ (le4 seconds ++ zeros (checkAt - headerEnd))) in
+    let front = headerFront owner seconds in
     let whole = le4-value seconds in
     let t : TakenHeader (closed front) =
     record {
@@ -162,7 +162,7 @@ taken-part m n x y z h =
     ∙ take-append-le n (drop m x) y (omega arith)
 
 block-seconds : (s : List ℕ) (seconds n k : ℕ) → BlockLayout s seconds n k → (i : ℕ) → i < k → secondOf s i ≡ take secondSize (drop (secondSize * i) (bodyOf s k))
-unfolding blockFront
+unfolding frontWith
 block-seconds s seconds n k l i h =
     let size = l .size in
     ap (λ (s : List ℕ). secondOf s i) (l .bytes ∙ made n k (bodyOf s k) size)

@@ -1,5 +1,11 @@
 pub mod Tests
 pub mod Answers
 pub mod Parts
+pub mod Puts
 pub mod Taken
+pub mod Writing
 pub mod Claims
+pub mod ReadBack
+pub mod Book
+pub mod WriterClaims
+pub mod Values

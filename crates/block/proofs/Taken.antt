@@ -49,7 +49,7 @@ pub header-zero : (s : List ℕ) → TakenHeader s → headerNumber s ≡ 0
 unfolding headerNumber
 header-zero s t =
     let some : secondsOf s ≡ 0 → ⊥ = λ e. omega (arith, t .some) in
-    no-number (headerRules s) (agrees refl refl (t .len), (agrees refl refl (t .check), (agrees refl refl (t .first-bytes), (agrees refl refl (t .version-is), (not-less refl refl (t .owners), (unequal refl refl some, (not-less refl refl (t .most), (agrees refl refl (t .spare-byte), (ap not (t .spare), tt)))))))))
+    no-number (headerRules s) (agrees (t .len) refl refl, (agrees (t .check) refl refl, (agrees (t .first-bytes) refl refl, (agrees (t .version-is) refl refl, (not-less (t .owners) refl refl, (unequal some refl refl, (not-less (t .most) refl refl, (agrees (t .spare-byte) refl refl, (ap not (t .spare), tt)))))))))
 
 pub record TakenBlock (s : List ℕ) (seconds n : ℕ) : Type 0 where
   pub len : length s ≡ blockSize
@@ -81,7 +81,7 @@ unfolding blockNumber
 block-zero s seconds n t =
     let one : n ≡ 0 → ⊥ = λ e. omega (arith, t .from-one) in
     let some : dueIn seconds n ≡ 0 → ⊥ = λ e. omega (arith, t .some) in
-    no-number (blockRules s seconds n) (agrees refl refl (t .len), (agrees refl refl (t .check), (agrees refl refl (t .number), (unequal refl refl one, (unequal refl refl some, (agrees refl refl (t .count), (ap not (t .spare), (ap not (t .unused), tt))))))))
+    no-number (blockRules s seconds n) (agrees (t .len) refl refl, (agrees (t .check) refl refl, (agrees (t .number) refl refl, (unequal one refl refl, (unequal some refl refl, (agrees (t .count) refl refl, (ap not (t .spare), (ap not (t .unused), tt))))))))
 
 pub header-fields : (s : List ℕ) (o t : ℕ) → headerOf s ≡ values (o ∷ t ∷ []) → TakenHeader s × (o ≡ ownerOf s) × (t ≡ secondsOf s)
 header-fields s o t e =

@@ -3,7 +3,7 @@ use mathlib.Core.Path.{_≡_}
 use Prim.Native.Nat.{ℕ, _+_, _*_, _-_, _/_, _≤_, _<_}
 use mathlib.Core.List.{List, [], _∷_, _++_}
 use lib.ListN.{length}
-use Rattle.codec.specs.Little.{le4}
+use Rattle.codec.specs.Little.{le2, le4}
 use Rattle.record.specs.Record.{mostSeconds, allKinds}
 use Rattle.block.specs.Places.{checkAt, headerEnd, version, countEnd, bodyAt, secondSize, secondAt}
 use Rattle.block.specs.Bytes.{part, zeros}
@@ -15,9 +15,13 @@ use Rattle.block.specs.Block.{dueIn}
 abbrev pub closed : List ℕ → List ℕ
 closed front = front ++ le4 (checkOf front)
 
--- "0-3 'RLIW', 4-5 version 1, 6 owner, 8-11 seconds in the book"
-unfoldable pub headerBytes : ℕ → ℕ → List ℕ
-headerBytes owner seconds = closed (name ++ ((version ∷ 0 ∷ owner ∷ 0 ∷ []) ++ (le4 seconds ++ zeros (checkAt - headerEnd))))
+-- "0-3 'RLIW', 4-5 version 1, 6 owner, 8-11 seconds in the book", up to the check
+unfoldable pub headerFront : ℕ → ℕ → List ℕ
+headerFront owner seconds =
+    name ++ (le2 version ++ ((owner ∷ 0 ∷ []) ++ (le4 seconds ++ zeros (checkAt - headerEnd))))
+
+abbrev pub headerBytes : ℕ → ℕ → List ℕ
+headerBytes owner seconds = closed (headerFront owner seconds)
 
 pub record HeaderLayout (s : List ℕ) (owner seconds : ℕ) : Type 0 where
   pub owners : owner ≤ allKinds
@@ -29,9 +33,13 @@ pub record HeaderLayout (s : List ℕ) (owner seconds : ℕ) : Type 0 where
 abbrev pub countIn : List ℕ → ℕ
 countIn body = length body / secondSize
 
--- "0-3 block number from 1, 4 seconds in it .., from 16 on 108 bytes a second"
-unfoldable pub blockBytes : ℕ → List ℕ → List ℕ
-blockBytes n body = closed (le4 n ++ ((countIn body ∷ zeros (bodyAt - countEnd)) ++ (body ++ zeros (checkAt - (bodyAt + length body)))))
+-- "0-3 block number from 1, 4 seconds in it .., from 16 on 108 bytes a second", up to the check
+unfoldable pub blockFront : ℕ → List ℕ → List ℕ
+blockFront n body =
+    le4 n ++ ((countIn body ∷ zeros (bodyAt - countEnd)) ++ (body ++ zeros (checkAt - (bodyAt + length body))))
+
+abbrev pub blockBytes : ℕ → List ℕ → List ℕ
+blockBytes n body = closed (blockFront n body)
 
 -- the bytes of the k seconds of a block
 abbrev pub bodyOf : List ℕ → ℕ → List ℕ

@@ -5,4 +5,8 @@ pub mod Said
 pub mod Header
 pub mod Block
 pub mod Layout
+pub mod Writing
+pub mod Book
 pub mod Claims
+pub mod WriterClaims
+pub mod Values

@@ -1,6 +1,7 @@
 // The header: 0-3 'RLIW', 4-5 version 1, 6 owner, 8-11 seconds in the book. All else is 0.
 ghost use mathlib.Core.Path.{_≡_};
-ghost use Rattle.block.specs.Header.{headerNumber, headerOf, headerSays};
+ghost use Rattle.codec.specs.Little.{u32At};
+ghost use Rattle.block.specs.Header.{name, headerNumber, headerOf, headerSays};
 use crate::CHECK_AT;
 use crate::Header;
 use crate::SIZE;
@@ -11,7 +12,7 @@ const NAME_AT: usize = 0;
 
 const VERSION_AT: usize = 4;
 
-const VERSION: u32 = 1;
+pub(crate) const VERSION: u32 = 1;
 
 const OWNER_AT: usize = 6;
 
@@ -23,6 +24,13 @@ const BOOK_SECONDS_AT: usize = 8;
 // The first byte past the fields.
 const END: usize = BOOK_SECONDS_AT + 4;
 
+// The first four bytes, as a number.
+pub(crate) fn first_bytes() -> u32
+    ensures { λ r. ⌜ r ≡ u32At name 0 ⌝ }
+{
+    codec::read_u32(b"RLIW", 0)
+}
+
 // The number of the first rule that the header breaks, or 0.
 fn header_number(s: &[u8]) -> u8
     ensures { λ r. ⌜ r ≡ headerNumber (now (s .entry)) ⌝ }
@@ -33,7 +41,7 @@ fn header_number(s: &[u8]) -> u8
     if codec::read_u32(s, CHECK_AT) != check_of(s) {
         return 13;
     }
-    if codec::read_u32(s, NAME_AT) != codec::read_u32(b"RLIW", 0) {
+    if codec::read_u32(s, NAME_AT) != first_bytes() {
         return 14;
     }
     if codec::read_u16(s, VERSION_AT) != VERSION {

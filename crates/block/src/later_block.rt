@@ -2,8 +2,11 @@
 ghost use mathlib.Core.Path.{_≡_};
 ghost use Prim.Native.Nat.{_≤_, _<_};
 ghost use lib.ListN.{length};
+ghost use Rattle.record.specs.Record.{mostSeconds};
 ghost use Rattle.block.specs.Places.{blockSize, perBlock, secondAt};
 ghost use Rattle.block.specs.Block.{dueIn, blockNumber, blockOf, blockSays, SecondIn};
+ghost use Rattle.block.specs.Layout.{bodyOf};
+ghost use Rattle.block.specs.Book.{lastBlock};
 use crate::Block;
 use crate::CHECK_AT;
 use crate::SIZE;
@@ -18,12 +21,21 @@ const COUNT_AT: usize = 4;
 const COUNT_END: usize = COUNT_AT + 1;
 
 // The first second's place, and the bytes of a second.
-const BODY_AT: usize = 16;
+pub(crate) const BODY_AT: usize = 16;
 
-const SECOND: usize = record::BOOK_SIZE;
+pub(crate) const SECOND: usize = record::BOOK_SIZE;
 
 // The seconds of a block that is not the last.
 pub const PER_BLOCK: usize = 4;
+
+// The number of the last block of a book.
+pub fn last_block(seconds: u32) -> u32
+    requires { ⌜ seconds ≤ mostSeconds ⌝ }
+    ensures { λ r. ⌜ (r ≡ lastBlock seconds) × (r ≤ mostSeconds) ⌝ }
+{
+    let most = PER_BLOCK as u32;
+    (seconds + (most - 1)) / most
+}
 
 // How many seconds block n of the book has: 4, fewer in the last, none after it.
 fn due(seconds: u32, n: u32) -> usize
@@ -101,4 +113,13 @@ pub fn second(s: &[u8], i: usize) -> &[u8]
     let from = second_at(i);
     let end = from + SECOND;
     &s[from..end]
+}
+
+// The bytes of a block's first `count` seconds.
+pub fn body(s: &[u8], count: usize) -> &[u8]
+    requires { ⌜ (length (now s) ≡ blockSize) × (count ≤ perBlock) ⌝ }
+    ensures { λ r. ⌜ now r ≡ bodyOf (now (s .entry)) count ⌝ }
+{
+    let end = second_at(count);
+    &s[BODY_AT..end]
 }

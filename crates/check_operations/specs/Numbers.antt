@@ -1,4 +1,5 @@
 -- The refusal number that each operation gives, 0 where nothing is refused, as the program asks it.
+use mathlib.Core.Path.{_≡_}
 use Prim.Native.Nat.{ℕ, _+_}
 use mathlib.Core.List.{List}
 use lib.IntN.{pos}
@@ -12,6 +13,7 @@ use Rattle.book.specs.State as book
 use Rattle.block.specs.Places.{blockSize, checkAt, perBlock}
 use Rattle.block.specs.Said.{Said, values, refused}
 use Rattle.block.specs.Block.{blockOf}
+use Rattle.block.specs.Writing.{Outcome}
 use Rattle.line.specs.declared.Answer.{Answer}
 use Rattle.line.specs.declared.Answer.the-variants.{Length, Refused}
 use Rattle.line.specs.Widths.{lineRoom}
@@ -37,6 +39,11 @@ lineNumber b s = lineNumberIn (answerOf lineRoom b (sumText s))
 abbrev pub saidNumber : Said → ℕ
 saidNumber (values vs) = 0
 saidNumber (refused n) = n
+
+-- a writer's answer with the number n, and the buffer b after it, are those of o
+pub record Wrote (n : ℕ) (b : List ℕ) (o : Outcome) : Type 0 where
+  pub number : n ≡ saidNumber (o .said)
+  pub buffer : b ≡ o .buffer
 
 -- that many bytes 0
 abbrev pub blank : ℕ → List ℕ

@@ -1,4 +1,6 @@
-// What the operations answer where no book can lead: one line each.
+// What the operations answer where no book can lead: one line each. Those of the writers: writers.rt.
+mod writers;
+
 use block::Block;
 use block::read_block;
 use book::Book;
@@ -114,14 +116,18 @@ fn block_number(number: u8) -> u8
 }
 
 // What was asked, and the number that refused it.
-fn report(what: &[u8], number: u8) {
+fn say(what: &[u8], number: u8) {
     io::write_all(STDOUT_FILENO, what);
     if number == 0 {
-        io::write_all(STDOUT_FILENO, b" accepted\n");
+        io::write_all(STDOUT_FILENO, b" accepted");
         return;
     }
     io::write_all(STDOUT_FILENO, b" refused ");
     io::print_decimal(STDOUT_FILENO, number as u64);
+}
+
+fn report(what: &[u8], number: u8) {
+    say(what, number);
     io::write_all(STDOUT_FILENO, b"\n");
 }
 
@@ -171,4 +177,7 @@ fn main() {
     report(b"block-none-due", block_number(5));
     plant_short();
     book_short();
+    writers::headers();
+    writers::blocks();
+    writers::one_buffer();
 }

@@ -1,2 +1,3 @@
 pub mod Little
 pub mod Puts
+pub mod Values

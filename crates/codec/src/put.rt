@@ -3,7 +3,7 @@ ghost use Prim.Native.Nat.{_+_, _%_, _≤_, _<_};
 ghost use mathlib.Core.Path.{_≡_};
 ghost use mathlib.Core.List.{[], _∷_};
 ghost use lib.ListN.{length};
-ghost use Rattle.codec.specs.Little.{le4};
+ghost use Rattle.codec.specs.Little.{le2, le4};
 ghost use Rattle.codec.specs.Put.{Put};
 
 pub fn put_byte(buf: &mut [u8], at: usize, b: u8) -> usize
@@ -32,6 +32,15 @@ fn low(n: u32) -> u8
     ensures { λ r. ⌜ r ≡ n % 256 ⌝ }
 {
     (n % 256) as u8
+}
+
+// A number's 2 bytes, the lowest first.
+pub fn put_u16(buf: &mut [u8], at: usize, n: u32) -> usize
+    requires { ⌜ (at + 2 ≤ length (now buf)) × (n < 65536) ⌝ }
+    ensures { λ r. ⌜ Put 2 (now (buf .entry)) (now (buf .exit)) at r (le2 n) ⌝ }
+{
+    let at = put_byte(buf, at, low(n));
+    put_byte(buf, at, low(n / 256))
 }
 
 // A number's 4 bytes, the lowest first.

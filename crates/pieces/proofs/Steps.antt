@@ -13,6 +13,7 @@ use Rattle.block.specs.declared.Header.the-variants as header
 use Rattle.block.specs.Places.{blockSize}
 use Rattle.block.specs.Header.{headerNumber, headerOf, headerSays}
 use Rattle.block.specs.Said.{refused, answered}
+use Rattle.block.specs.Book.{lastBlock}
 use Rattle.block.proofs.Taken.{header-fields, header-zero}
 use Rattle.codec.specs.Put.{Put}
 use Rattle.codec.proofs.Puts.{loosen, none}
@@ -23,7 +24,6 @@ use Rattle.report.specs.Running.{Ran, Adds, blockIn}
 use Rattle.report.specs.Text.{blockRoom}
 use Rattle.pieces.specs.declared.standing.Standing.{Standing}
 use Rattle.pieces.specs.declared.standing.Advance.{Advance}
-use Rattle.pieces.specs.Printed.{lastBlock}
 use Rattle.pieces.specs.Pieces.{Went, unmoved, withVerdict, afterHeader, headerBy, laterBy, beyondBy, dueBy, isDue, standingIn, bytesDue, wantedBy, wantedIn, pieceSize, StandingReady, Advances}
 use Rattle.pieces.proofs.Bytes.{beyond-is}
 

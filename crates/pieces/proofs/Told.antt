@@ -17,12 +17,13 @@ use Rattle.book.specs.State.{stateOf, fresh, secondOf}
 use Rattle.block.specs.Places.{blockSize, perBlock}
 use Rattle.block.specs.Header.{headerNumber, ownerOf, secondsOf}
 use Rattle.block.specs.Block.{blockNumber, countOf, secondsFrom}
+use Rattle.block.specs.Book.{Held, heldBy, pastLast, laterBlocks, lastBlock, blocksOf}
 use Rattle.report.specs.declared.Form.{Form}
 use Rattle.report.specs.declared.run.Verdict.{Verdict}
 use Rattle.report.specs.declared.run.Verdict.the-variants as verdict
 use Rattle.report.specs.Running.{Ran, blockIn, secondsIn}
 use Rattle.pieces.specs.declared.standing.Standing.{Standing}
-use Rattle.pieces.specs.Printed.{Judged, judged, Held, heldBy, pastLast, laterBlocks, lastBlock, blocksOf, lastText, bookSeconds, printedBy, printed}
+use Rattle.pieces.specs.Printed.{Judged, judged, lastText, bookSeconds, printedBy, printed}
 use Rattle.pieces.specs.Pieces.{Went, start, withVerdict, afterHeader, headerBy, laterBy, beyondBy, isDue, standingIn, onward, bytesIn, endOf, lastBy, lastIn}
 use Rattle.pieces.proofs.Bytes.{refused-not-due, stays, beyond, filling, block-more}
 use Rattle.pieces.proofs.Steps.{header-is, later-is}

@@ -10,10 +10,11 @@ use Rattle.book.specs.Sums.{sumA, sumB, sumOpen, sumDue}
 use Rattle.book.specs.Run.{accepted}
 use Rattle.block.specs.Places.{blockSize}
 use Rattle.block.specs.Header.{headerNumber, ownerOf, secondsOf}
+use Rattle.block.specs.Book.{blocksOf}
 use Rattle.line.specs.Line.{sumText}
 use Rattle.report.specs.declared.Form.{Form}
 use Rattle.pieces.specs.declared.standing.Standing.{Standing}
-use Rattle.pieces.specs.Printed.{blocksOf, bookSeconds, numberIn, printed}
+use Rattle.pieces.specs.Printed.{bookSeconds, numberIn, printed}
 use Rattle.pieces.specs.Pieces.{start, bytesIn, lastIn, wantedIn}
 
 -- the texts that `take` puts for the pieces, one after the other, and the last line where they end

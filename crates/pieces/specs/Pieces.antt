@@ -11,6 +11,7 @@ use Rattle.book.specs.State.{fresh, Ready}
 use Rattle.record.specs.Record.{mostSeconds}
 use Rattle.block.specs.Places.{blockSize}
 use Rattle.block.specs.Header.{headerNumber, ownerOf, secondsOf}
+use Rattle.block.specs.Book.{lastBlock}
 use Rattle.codec.specs.Put.{Put}
 use Rattle.line.specs.Line.{sumText, refusalText}
 use Rattle.report.specs.declared.Form.{Form}
@@ -22,7 +23,6 @@ use Rattle.pieces.specs.declared.standing.Standing.{Standing}
 use Rattle.pieces.specs.declared.standing.Advance.{Advance}
 use Rattle.pieces.specs.declared.reading.Reading.{Reading}
 use Rattle.pieces.specs.declared.reading.Taken.{Taken}
-use Rattle.pieces.specs.Printed.{lastBlock}
 
 -- ---- block after block
 

@@ -1,7 +1,7 @@
 -- What is printed of a book: from all the bytes of standard input to all those of standard output (01, "Blocks and text" and "When a book is
 -- turned down"). No buffer, read or state stands here.
 use mathlib.Core.List.{List, [], _∷_, _++_, map}
-use Prim.Native.Nat.{ℕ, zero, suc, _+_, _-_, _/_}
+use Prim.Native.Nat.{ℕ, zero, suc}
 use lib.ListN.{length, take, drop}
 use Rattle.numbers.specs.Rules.{orElse}
 use Rattle.book.specs.Seconds.{BookSecond, History}
@@ -9,43 +9,12 @@ use Rattle.book.specs.Refusals.{numberAt}
 use Rattle.book.specs.Rows.{unitRowAt, aRowAt, bRowAt}
 use Rattle.book.specs.Sums.{sumsOf}
 use Rattle.book.specs.State.{secondOf}
-use Rattle.block.specs.Places.{blockSize, perBlock}
+use Rattle.block.specs.Places.{blockSize}
 use Rattle.block.specs.Header.{headerNumber, ownerOf, secondsOf}
-use Rattle.block.specs.Block.{blockNumber, countOf, secondsFrom}
+use Rattle.block.specs.Book.{blocksOf}
 use Rattle.line.specs.Line.{sumText, refusalText}
 use Rattle.report.specs.declared.Form.{Form}
 use Rattle.report.specs.Text.{linesOf}
-
--- ---- the seconds that the blocks hold
-
--- the seconds in turn up to the first block that is refused, and its number, 0 where none is
-pub record Held : Type 0 where
-  pub seconds : List (List ℕ)
-  pub number : ℕ
-
--- block s, where its number is n and `rest` is what the blocks after it hold
-abbrev pub heldBy : ℕ → List ℕ → Held → Held
-heldBy zero s rest = record { seconds = secondsFrom s 0 (countOf s) ++ rest .seconds; number = rest .number }
-heldBy (suc n) s rest = record { seconds = []; number = suc n }
-
--- "21 for bytes after the last"
-abbrev pub pastLast : List ℕ → ℕ
-pastLast [] = 0
-pastLast (b ∷ s) = 21
-
--- the later blocks of a book of t seconds in the bytes s, `left` of them from block n on; "12 for a short block": one that isn't whole is what
--- is left of s
-unfoldable pub laterBlocks : ℕ → ℕ → ℕ → List ℕ → Held
-laterBlocks t n zero s = record { seconds = []; number = pastLast s }
-laterBlocks t n (suc left) s =
-    heldBy (blockNumber (take blockSize s) t n) (take blockSize s) (laterBlocks t (suc n) left (drop blockSize s))
-
--- the number of the last block of a book of t seconds: 4 in each, fewer only in the last
-abbrev pub lastBlock : ℕ → ℕ
-lastBlock t = (t + (perBlock - 1)) / perBlock
-
-abbrev pub blocksOf : ℕ → List ℕ → Held
-blocksOf t s = laterBlocks t 1 (lastBlock t) s
 
 -- ---- the seconds judged in turn
 

@@ -11,13 +11,9 @@ ghost use mathlib.Core.Bool.{true};
 ghost use lib.ListN.{length};
 ghost use Rattle.record.specs.Record.{mostSeconds};
 ghost use Rattle.report.specs.Text.{blockRoom, textOf};
-ghost use Rattle.pieces.specs.Printed.{lastBlock};
 ghost use Rattle.report.specs.Running.{blockIn};
 ghost use Rattle.pieces.specs.Pieces.{start, isDue, bytesDue, withVerdict, headerBy, laterBy, beyondBy, standingIn, lastIn, endOf, StandingReady, Advances};
 ghost use Rattle.block.specs.Header.{headerNumber};
-
-// The seconds of a block.
-const PER_BLOCK: u32 = block::PER_BLOCK as u32;
 
 // Where a book stands between two of its blocks: `next` is the number of the block next in turn, 0 for the header. Before the header the plan
 // has no seconds, so that block 0 is the last one due.
@@ -32,14 +28,6 @@ pub struct Standing {
 pub(crate) struct Advance {
     pub standing: Standing,
     pub used: usize,
-}
-
-// The number of the last block.
-pub(crate) fn last_block(seconds: u32) -> u32
-    requires { ⌜ seconds ≤ mostSeconds ⌝ }
-    ensures { λ r. ⌜ (r ≡ lastBlock seconds) × (r ≤ mostSeconds) ⌝ }
-{
-    (seconds + (PER_BLOCK - 1)) / PER_BLOCK
 }
 
 impl Standing {
@@ -68,7 +56,7 @@ impl Standing {
             return false;
         }
         let plan = self.plan;
-        self.next <= last_block(plan.seconds)
+        self.next <= block::last_block(plan.seconds)
     }
 
     // The bytes of the blocks that are due.
@@ -77,7 +65,7 @@ impl Standing {
         ensures { λ r. ⌜ r ≡ bytesDue self ⌝ }
     {
         let plan = self.plan;
-        let left = last_block(plan.seconds) + 1 - self.next;
+        let left = block::last_block(plan.seconds) + 1 - self.next;
         (left as usize) * block::SIZE
     }
 

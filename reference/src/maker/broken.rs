@@ -139,7 +139,9 @@ pub fn cases() -> Vec<Fault> {
     cases.push(Fault::TwoInOne(None));
     cases.extend([Fault::TwoPlants(0, 1), Fault::TwoPlants(0, 2), Fault::TwoPlants(1, 2)]);
     cases.push(Fault::TwoSeconds);
-    cases.extend([Input::Empty, Input::HeaderCut, Input::HeaderOnly, Input::FirstBlockCut].map(|input| Fault::Input(input, Length::Short)));
+    for input in [Input::Empty, Input::HeaderCut, Input::HeaderOnly, Input::FirstBlockCut] {
+        cases.push(Fault::Input(input, Length::Short));
+    }
     for length in LENGTHS {
         for input in [
             Input::MiddleBlockCut,

@@ -1,11 +1,12 @@
 //! Books by seed, for comparing programs.
 
 pub mod broken;
+pub mod example;
 pub mod families;
 pub mod random;
 pub mod tracks;
 
-use crate::block::{write_block, write_header};
+use crate::block::{self, write_block, write_header};
 use crate::book;
 use crate::record::Record;
 
@@ -22,10 +23,13 @@ pub fn second_bytes(second: &Second) -> [u8; book::LENGTH] {
 
 /// The blocks of a book, header first.
 pub fn book_blocks(owner: u8, seconds: &[Second]) -> Vec<Vec<u8>> {
-    let mut blocks = vec![write_header(owner, seconds.len() as u32).to_vec()];
-    for (k, four) in seconds.chunks(4).enumerate() {
-        let inside: Vec<_> = four.iter().map(second_bytes).collect();
-        blocks.push(write_block(k as u32 + 1, &inside).to_vec());
+    let mut buffer = [0; block::LENGTH];
+    write_header(&mut buffer, owner, seconds.len() as u32).expect("a sound owner and count");
+    let mut blocks = vec![buffer.to_vec()];
+    for (k, few) in seconds.chunks(block::MOST).enumerate() {
+        let inside = few.iter().map(second_bytes).collect::<Vec<_>>().concat();
+        write_block(&mut buffer, k as u32 + 1, &inside).expect("a number from 1 and one to four seconds");
+        blocks.push(buffer.to_vec());
     }
     blocks
 }

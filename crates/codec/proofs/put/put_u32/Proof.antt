@@ -1,5 +1,5 @@
 -- `codec::put::put_u32` meets its contract: four bytes put, one after the other. Assumes nothing.
-use mathlib.Core.Path.{_≡_, _∙_}
+use mathlib.Core.Path.{_≡_}
 use mathlib.Core.List.{[], _∷_}
 use Prim.Native.Nat.{_/_, _%_}
 use native.Mathlib.Omega.{arith}

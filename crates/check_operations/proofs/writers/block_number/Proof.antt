@@ -1,0 +1,25 @@
+-- `check_operations::writers::block_number` meets its contract: the writer answers as its definition says. Assumes nothing.
+use mathlib.Core.Path.{ap, _∙_}
+use Rattle.block.specs.Writing.{Outcome}
+use Rattle.check_operations.specs.Numbers.{saidNumber}
+use borrow.Author.Needs.{needs}
+use Rattle.check_operations.proofs.writers.block_number.Statement.{statement}
+use Rattle.check_operations.proofs.writers.block_number.Tie as tie
+
+write-block-requires : tie.Need-write-block-requires
+write-block-requires c κs = search needs
+
+number-in-requires : tie.Need-number-in-requires
+number-in-requires c κs = search needs
+
+same-length : tie.Need-same-length
+same-length c = search needs
+
+returns : tie.Need-returns
+returns c =
+    let e = c .before .before .before .write-block .ensures in
+    record { number = c .number-in .ensures ∙ ap (λ (o : Outcome). saidNumber (o .said)) e; buffer = ap (λ (o : Outcome). o .buffer) e }
+
+pub block-number-spec : {M : Type 1} → statement M
+block-number-spec =
+    tie.close (tie.spec write-block-requires number-in-requires same-length returns)
