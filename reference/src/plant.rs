@@ -102,9 +102,9 @@ impl Plant {
             called.as_ref().unwrap_or(&self.mfrr).setpoint(now),
         ];
         let on = [record.status & 1 != 0, record.status & 2 != 0, record.status & 4 != 0];
-        for kind in 0..3 {
+        for (kind, number) in [11, 24, 25].into_iter().enumerate() {
             if !on[kind] && setpoints[kind] != 0 {
-                return Err(11);
+                return Err(number);
             }
         }
         Ok(Accepted {

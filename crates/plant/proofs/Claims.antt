@@ -40,6 +40,7 @@ use Rattle.plant.specs.State.{stateOf, OverPast, mostAdded, Added, stepI
 use Rattle.plant.specs.Run.{PlantSecond, stateAfter, answers, accepted, answersOver}
 use Rattle.plant.specs.Claims.{kindList, EveryList, RowHolds, Claims}
 use Rattle.plant.proofs.Past.{Clear, clear, ready, fcr-ranged, afrr-second-fair, afrr-fair, mfrr-accepted, over-bytes}
+use Rattle.plant.proofs.TurnedDown.{same-turned-down}
 
 -- ---- one second
 
@@ -215,4 +216,5 @@ claims =
       over-past = λ h a s m w. over-past h a s m w;
       row-holds = λ h a x e m w. row-holds h a x e m w;
       fits = λ h a x e. row-fits h a x e (pos 0) (pos 0) none-added;
+      same-turned-down = same-turned-down;
     }

@@ -3,12 +3,16 @@ use mathlib.Core.Path.{refl}
 use Rattle.record.specs.Record.{bitsOf}
 use Rattle.fcr.specs.Setpoint.{setpointOf}
 use Rattle.numbers.specs.Bounds.{outside}
-use Rattle.plant.specs.Refusals.{heldOut, deviationOut, powerOut, setpointOut, callFilled, callOut, recordNumber, offMoves, offNumber, numberAt}
+use Rattle.mfrr.specs.Signal.{isResting, lastOf, through, phaseAt, rampPart, rampUp, rampDown, valueOf, valueAt, signal, phaseNow, setpointAt}
+use Rattle.mfrr.specs.Leftovers.{ended, leftovers, counting}
+use Rattle.mfrr.specs.Refusals.{targetOut, endOut, ninth, callRules, rulesAt}
+use Rattle.mfrr.specs.State.{secondOf}
+use Rattle.plant.specs.Refusals.{heldOut, deviationOut, powerOut, setpointOut, callFilled, callOut, recordNumber, offMoves, offNumber, recordNumberAt, numberAt}
 use Rattle.plant.specs.Rows.{kindsWith}
 use Rattle.plant.specs.Values.{Values}
 
 values : Values
-unfolding bitsOf setpointOf outside heldOut deviationOut powerOut setpointOut callFilled callOut recordNumber offMoves offNumber numberAt kindsWith
+unfolding bitsOf setpointOf outside heldOut deviationOut powerOut setpointOut callFilled callOut recordNumber offMoves offNumber recordNumberAt numberAt kindsWith isResting lastOf through phaseAt rampPart rampUp rampDown valueOf valueAt signal phaseNow setpointAt ended leftovers counting targetOut endOut ninth callRules rulesAt secondOf
 values =
     record {
       one = refl;
@@ -18,11 +22,14 @@ values =
       five = refl;
       six = refl;
       seven = refl;
-      eleven-on = refl;
-      eleven-at-0 = refl;
-      eleven-fcr = refl;
-      eleven-afrr = refl;
-      eleven-mfrr = refl;
+      all-on = refl;
+      off-at-0 = refl;
+      eleven = refl;
+      twenty-four = refl;
+      twenty-five = refl;
+      several-off = refl;
+      off-at-a-call = refl;
+      off-in-a-call = refl;
       twelve = refl;
       one-first = refl;
       in-order = refl;

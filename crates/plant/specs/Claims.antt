@@ -2,7 +2,7 @@
 -- proofs/Claims.antt.
 use Prim.Native.Nat.{ℕ, _≤_}
 use mathlib.Core.Path.{_≡_}
-use mathlib.Core.Logic.{_↔_}
+use mathlib.Core.Logic.{_↔_, _⊎_}
 use mathlib.Core.Bool.{true}
 use mathlib.Core.List.{List, []}
 use lib.IntN.{ℤ, pos, natAbs, _+ℤ_}
@@ -15,7 +15,7 @@ use Rattle.sharing.specs.Sizes.{SizedRow}
 use Rattle.sharing.specs.Shares.{someOn}
 use Rattle.sharing.specs.Rows.{kindsOn, errorOf, totalOf, three}
 use Rattle.plant.specs.Seconds.{History}
-use Rattle.plant.specs.Refusals.{recordNumberAt, Accepted}
+use Rattle.plant.specs.Refusals.{recordNumberAt, numberAt, baseNumberAt, Accepted}
 use Rattle.plant.specs.Rows.{kindsAt, sharedDifference, rowAt}
 use Rattle.plant.specs.State.{stateOf, OverPast, Ready, stepIn}
 use Rattle.plant.specs.Run.{PlantSecond, stateAfter, answers, accepted, answersOver}
@@ -48,6 +48,13 @@ pub record RowHolds (h : History) (x : Record) (m w : ℤ) : Type 0 where
   -- where measured - working point, as shared, is within D, no figure is above D and four times the largest reserve
   pub sized : (D : ℕ) → Within D (sharedDifference x m w) → SizedRow D (rowAt h x m w)
 
+-- 02, W2: 11 "shall now mean FCR only; the same seconds are turned down". Against the number `base` of a second under 01's 11, its number n: one
+-- applies exactly where the other does; where the base's is not 11 they are the same, and where it is, n is one of the three.
+pub record SameTurnedDown (n base : ℕ) : Type 0 where
+  pub same-seconds : (n ≡ 0) ↔ (base ≡ 0)
+  pub other-numbers : (base ≡ 11 → ⊥) → n ≡ base
+  pub which-kind : base ≡ 11 → (n ≡ 11) ⊎ ((n ≡ 24) ⊎ (n ≡ 25))
+
 pub record Claims : Type 0 where
   pub every-list : (ss : List PlantSecond) → EveryList ss
   -- one second at the state that accepted seconds leave
@@ -55,3 +62,5 @@ pub record Claims : Type 0 where
   pub row-holds : (h : History) → Accepted h → (x : Record) → recordNumberAt h x ≡ 0 → (m w : ℤ) → RowHolds h x m w
   -- "A row's figures are signed 32-bit numbers", where sharing adds nothing; a book's rows in `book/Claims`
   pub fits : (h : History) → Accepted h → (x : Record) → recordNumberAt h x ≡ 0 → Row32 (rowAt h x (pos 0) (pos 0))
+  -- for every past and every bytes
+  pub same-turned-down : (h : History) (s : List ℕ) → SameTurnedDown (numberAt h s) (baseNumberAt h s)

@@ -15,7 +15,7 @@ use Rattle.row.specs.declared.KindRow.{KindRow}
 use Rattle.plant.specs.declared.Kinds.{Kinds}
 use Rattle.plant.specs.declared.Setpoints.{Setpoints}
 use Rattle.plant.specs.Seconds.{afrrSecond, setpointsWith}
-use Rattle.plant.specs.Refusals.{recordNumber, offNumber, rulesWith, lengthRule, numberAt}
+use Rattle.plant.specs.Refusals.{recordNumber, offNumber, rulesWith, recordNumberAt, lengthRule, numberAt}
 use Rattle.plant.specs.Rows.{kindsWith, sharedDifference, figuresOf}
 
 -- ---- records
@@ -120,12 +120,24 @@ pub record Values : Type 0 where
       map (recordNumber 0)
       (calling 1 (pos 1) 1 ∷ calling 2 (pos 0) 0 ∷ calling 0 (pos 1) 0 ∷ calling 0 (negsuc 0) 0 ∷ calling 0 (pos 0) 1 ∷ [])
       ≡ 0 ∷ 7 ∷ 7 ∷ 7 ∷ 7 ∷ []
-  -- a kind on may have any setpoint, one off 0 alone; each kind by its own bit
-  pub eleven-on : offNumber (bits true true true) (setpoints (pos 1) (pos 1) (pos 1)) ≡ 0
-  pub eleven-at-0 : offNumber (bits false false false) (setpoints (pos 0) (pos 0) (pos 0)) ≡ 0
-  pub eleven-fcr : map (λ (s : ℤ). offNumber (bits false true true) (setpoints s (pos 0) (pos 0))) (pos 1 ∷ negsuc 0 ∷ []) ≡ 11 ∷ 11 ∷ []
-  pub eleven-afrr : offNumber (bits true false true) (setpoints (pos 0) (pos 1) (pos 0)) ≡ 11
-  pub eleven-mfrr : offNumber (bits true true false) (setpoints (pos 0) (pos 0) (pos 1)) ≡ 11
+  -- a kind on may have any setpoint, one off 0 alone; each kind by its own bit, with its own number
+  pub all-on : offNumber (bits true true true) (setpoints (pos 1) (pos 1) (pos 1)) ≡ 0
+  pub off-at-0 : offNumber (bits false false false) (setpoints (pos 0) (pos 0) (pos 0)) ≡ 0
+  pub eleven : map (λ (s : ℤ). offNumber (bits false true true) (setpoints s (pos 1) (pos 1))) (pos 1 ∷ negsuc 0 ∷ []) ≡ 11 ∷ 11 ∷ []
+  pub twenty-four : map (λ (s : ℤ). offNumber (bits true false true) (setpoints (pos 1) s (pos 1))) (pos 1 ∷ negsuc 0 ∷ []) ≡ 24 ∷ 24 ∷ []
+  pub twenty-five : map (λ (s : ℤ). offNumber (bits true true false) (setpoints (pos 1) (pos 1) s)) (pos 1 ∷ negsuc 0 ∷ []) ≡ 25 ∷ 25 ∷ []
+  -- two and three at once: FCR and aFRR, FCR and mFRR, aFRR and mFRR, all
+  pub several-off :
+      map (λ (s : Setpoints). offNumber (bits false false false) s)
+      (setpoints (pos 1) (pos 1) (pos 0)
+      ∷ setpoints (pos 1) (pos 0) (pos 1)
+      ∷ setpoints (pos 0) (pos 1) (pos 1)
+      ∷ setpoints (pos 1) (pos 1) (pos 1)
+      ∷ [])
+      ≡ 11 ∷ 11 ∷ 24 ∷ 11 ∷ []
+  -- mFRR off: its setpoint is 0 in the second of a first call, and not in the next one, with a call or without
+  pub off-at-a-call : recordNumberAt [] (calling 1 (pos 900) 1800) ≡ 0
+  pub off-in-a-call : map (recordNumberAt (calling 1 (pos 900) 1800 ∷ [])) (inStatus 0 ∷ calling 1 (pos 0) 1800 ∷ []) ≡ 25 ∷ 25 ∷ []
   pub twelve : map (λ (n : ℕ). lengthRule (replicate n 0) .applies) (35 ∷ 36 ∷ 37 ∷ []) ≡ true ∷ false ∷ true ∷ []
   -- ---- their order
   pub one-first : recordNumber 90000 (broken (negsuc 0) (pos 5001) (pos 4000001) million 8) ≡ 1
@@ -139,7 +151,7 @@ pub record Values : Type 0 where
       ∷ broken (pos 0) (pos 0) (pos 0) (pos 1) 7
       ∷ [])
       ≡ 2 ∷ 3 ∷ 4 ∷ 5 ∷ 6 ∷ 7 ∷ []
-  -- 7, then mFRR's, then 11; 12 before all
+  -- 7, then mFRR's, then those of the kinds off; 12 before all
   pub groups :
       map (λ (x : Record). first (rulesWith 0 x (refuse 8 true ∷ []) (setpoints (pos 1) (pos 0) (pos 0)))) (calling 2 (pos 0) 0 ∷ calling 1 (pos 0) 0 ∷ [])
       ≡ 7 ∷ 8 ∷ []

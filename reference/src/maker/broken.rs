@@ -47,12 +47,17 @@ impl Place {
 
 const PLANTS: [&str; 3] = ["U", "A", "B"];
 
+/// The numbers of a plant second that a book can reach, in the order in which they are given.
+const NUMBERS: [u8; 12] = [2, 3, 4, 5, 6, 7, 8, 9, 10, 11, 24, 25];
+
 #[derive(Clone, Copy, Debug)]
 pub enum Fault {
-    /// A plant number, 2 to 11, in one record.
+    /// A plant number in one record.
     Plant(u8, usize, Place),
-    /// Two plant numbers in one record; `None`: any two.
-    TwoInOne(Option<(u8, u8)>),
+    /// Several plant numbers in one record, in order; the plant, or any one.
+    InOne(&'static [u8], Option<usize>),
+    /// Any two of them.
+    AnyTwoInOne,
     /// A larger number in an earlier plant and a smaller one in a later plant of the same second.
     TwoPlants(usize, usize),
     /// Faults in two seconds that follow each other.
@@ -123,20 +128,26 @@ pub enum Mixed {
     CheckThenMore,
 }
 
+const NEXT_TO_EACH_OTHER: [&[u8]; 9] = [&[2, 3], &[3, 4], &[4, 5], &[5, 6], &[6, 7], &[7, 8], &[8, 9], &[9, 10], &[10, 11]];
+
+/// Two and three kinds off at once whose setpoints aren't 0.
+const KINDS_OFF: [&[u8]; 4] = [&[11, 24], &[11, 25], &[24, 25], &[11, 24, 25]];
+
 /// All cases, in turn.
 pub fn cases() -> Vec<Fault> {
     let mut cases = Vec::new();
     for place in PLACES {
-        for number in 2..=11 {
+        for number in NUMBERS {
             for plant in 0..3 {
                 cases.push(Fault::Plant(number, plant, place));
             }
         }
     }
-    for number in 2..=10 {
-        cases.push(Fault::TwoInOne(Some((number, number + 1))));
+    cases.extend(NEXT_TO_EACH_OTHER.iter().map(|pair| Fault::InOne(pair, None)));
+    for plant in 0..3 {
+        cases.extend(KINDS_OFF.iter().map(|&kinds| Fault::InOne(kinds, Some(plant))));
     }
-    cases.push(Fault::TwoInOne(None));
+    cases.push(Fault::AnyTwoInOne);
     cases.extend([Fault::TwoPlants(0, 1), Fault::TwoPlants(0, 2), Fault::TwoPlants(1, 2)]);
     cases.push(Fault::TwoSeconds);
     for input in [Input::Empty, Input::HeaderCut, Input::HeaderOnly, Input::FirstBlockCut] {
@@ -212,27 +223,22 @@ pub fn make(turn: u64, owner: u8, random: &mut Random) -> Made {
             let name = format!("broken, {} in {} at the {:?} second", number, PLANTS[plant], place);
             made(name, book_blocks(owner, &seconds).concat(), number, at)
         }
-        Fault::TwoInOne(pair) => {
-            let (first, next) = pair.unwrap_or_else(|| {
-                let first = random.within(2, 10);
-                (first as u8, random.within(first + 1, 11) as u8)
-            });
+        Fault::InOne(numbers, plant) => {
+            let plant = plant.unwrap_or_else(|| random.index(3));
+            several(numbers, plant, owner, random)
+        }
+        Fault::AnyTwoInOne => {
+            let first = random.index(NUMBERS.len() - 1);
+            let next = random.within(first as i64 + 1, NUMBERS.len() as i64 - 1) as usize;
             let plant = random.index(3);
-            let place = random.pick(&PLACES);
-            let mut seconds = base(owner, place.length(), full_if(next == 10 || first == 10, plant), random);
-            let at = second_of(place, if next == 10 { 10 } else { first }, seconds.len(), random);
-            let (one, other) = (random.index(9), random.index(9));
-            spoil(&mut seconds[at][plant], next, other, at, random);
-            spoil(&mut seconds[at][plant], first, one, at, random);
-            let name = format!("broken, {} and {} in {} at the {:?} second", first, next, PLANTS[plant], place);
-            made(name, book_blocks(owner, &seconds).concat(), first, at)
+            several(&[NUMBERS[first], NUMBERS[next]], plant, owner, random)
         }
         Fault::TwoPlants(earlier, later) => {
             let smaller = random.within(2, 8);
             let between = random.within(smaller + 1, 9);
-            let larger = random.pick(&[9, 11, between]) as u8;
+            let larger = random.pick(&[9, 11, 24, 25, between]) as u8;
             let mut seconds = base(owner, random.pick(&LENGTHS), None, random);
-            let at = random.index(seconds.len());
+            let at = random.within(1, seconds.len() as i64 - 1) as usize;
             let (one, other) = (random.index(9), random.index(9));
             spoil(&mut seconds[at][earlier], larger, one, at, random);
             spoil(&mut seconds[at][later], smaller as u8, other, at, random);
@@ -241,17 +247,34 @@ pub fn make(turn: u64, owner: u8, random: &mut Random) -> Made {
         }
         Fault::TwoSeconds => {
             let mut seconds = base(owner, random.pick(&LENGTHS), None, random);
-            let at = random.index(seconds.len() - 1);
+            let at = random.within(1, seconds.len() as i64 - 2) as usize;
             let (one, other) = (random.index(9), random.index(9));
-            spoil(&mut seconds[at][2], 11, one, at, random);
+            let number = random.pick(&[11, 24, 25]);
+            spoil(&mut seconds[at][2], number, one, at, random);
             spoil(&mut seconds[at + 1][0], 2, other, at + 1, random);
-            made("broken, 11 in B, 2 in U a second later".to_string(), book_blocks(owner, &seconds).concat(), 11, at)
+            let name = format!("broken, {} in B, 2 in U a second later", number);
+            made(name, book_blocks(owner, &seconds).concat(), number, at)
         }
         Fault::Input(input, length) => of_input(input, length, owner, random),
         Fault::Header(header) => of_header(header, owner, random),
         Fault::Block(block, place) => of_block(block, place, owner, random),
         Fault::Mixed(mixed) => of_mixed(mixed, owner, random),
     }
+}
+
+/// A book with one record that several numbers apply to, the first of them to be given.
+fn several(numbers: &[u8], plant: usize, owner: u8, random: &mut Random) -> Made {
+    let place = random.pick(&PLACES);
+    let mut seconds = base(owner, place.length(), full_if(numbers.contains(&10), plant), random);
+    let latest = numbers.iter().copied().max_by_key(|&number| first_second_for(number)).expect("a number");
+    let at = second_of(place, latest, seconds.len(), random);
+    for &number in numbers.iter().rev() {
+        let way = random.index(9);
+        spoil(&mut seconds[at][plant], number, way, at, random);
+    }
+    let list = numbers.iter().map(u8::to_string).collect::<Vec<_>>().join(" and ");
+    let name = format!("broken, {} in {} at the {:?} second", list, PLANTS[plant], place);
+    made(name, book_blocks(owner, &seconds).concat(), numbers[0], at)
 }
 
 fn made(name: String, bytes: Vec<u8>, number: u8, at: usize) -> Made {
@@ -293,8 +316,17 @@ fn base(owner: u8, length: Length, full: Option<usize>, random: &mut Random) -> 
     seconds(owner, &mut tracks, count, random)
 }
 
+/// The first second that can have this number: all places are taken from 9 on, and mFRR's setpoint is 0 at second 0.
+fn first_second_for(number: u8) -> usize {
+    match number {
+        10 => 9,
+        25 => 1,
+        _ => 0,
+    }
+}
+
 fn second_of(place: Place, number: u8, count: usize, random: &mut Random) -> usize {
-    let first = if number == 10 { 9 } else { 0 };
+    let first = first_second_for(number);
     match place {
         Place::First => first,
         Place::Middle => random.within(first as i64 + 1, count as i64 - 2) as usize,
@@ -353,26 +385,22 @@ fn spoil(record: &mut Record, number: u8, way: usize, now: usize, random: &mut R
         }
         10 => call(record, now, random),
         11 => {
-            // a running call has a setpoint from second 1 on
-            let kind = [0, 1, 0, 2, 3, 0, 1, 2, 3][if now == 0 { way % 3 } else { way }];
-            match kind {
-                0 => {
-                    record.fcr_held = random.pick(&[2, 400, 1_000_000]);
-                    record.deviation = random.pick(&[100, -100, 200, -5_000]);
-                    record.status &= !1;
-                }
-                1 => {
-                    record.afrr_setpoint = random.pick(&[1, -1, 1_000_000]);
-                    record.status &= !2;
-                }
-                2 => record.status &= !4,
-                _ => {
-                    call(record, now, random);
-                    record.status &= !4;
-                }
-            }
+            record.fcr_held = random.pick(&[2, 400, 1_000_000]);
+            record.deviation = random.pick(&[100, -100, 200, -5_000]);
+            record.status &= !1;
         }
-        _ => unreachable!("a plant's number is 2 to 11"),
+        24 => {
+            record.afrr_setpoint = random.pick(&[1, -1, 1_000_000]);
+            record.status &= !2;
+        }
+        25 => {
+            // the running call's value, also where a new one comes
+            if way % 2 == 0 {
+                call(record, now, random);
+            }
+            record.status &= !4;
+        }
+        _ => unreachable!("no number of a plant second that a book can reach"),
     }
 }
 
@@ -604,7 +632,7 @@ fn of_mixed(mixed: Mixed, owner: u8, random: &mut Random) -> Made {
         Mixed::PlantThenMore => count - 1,
         Mixed::CheckThenMore => 0,
     };
-    let refusal = random.pick(&[2, 3, 4, 5, 6, 7, 8, 9, 11]);
+    let refusal = random.pick(&[2, 3, 4, 5, 6, 7, 8, 9, 11, 24, 25]);
     if !matches!(mixed, Mixed::CheckThenMore) {
         let (plant, way) = (random.index(3), random.index(9));
         spoil(&mut seconds[at][plant], refusal, way, at, random);
@@ -670,6 +698,6 @@ mod tests {
                 }
             }
         }
-        assert!(late.iter().eq(&[2, 3, 4, 5, 6, 7, 8, 9, 10, 11, 12, 13, 18, 19, 20, 21]), "{:?}", late);
+        assert!(late.iter().eq(&[2, 3, 4, 5, 6, 7, 8, 9, 10, 11, 12, 13, 18, 19, 20, 21, 24, 25]), "{:?}", late);
     }
 }
