@@ -41,7 +41,7 @@ use Rattle.plant.specs.Run.{PlantSecond, stateAfter, answers, accepted, 
 use Rattle.plant.specs.Claims.{kindList, EveryList, RowHolds, Stuck, callWhileOff, Claims}
 use Rattle.plant.proofs.Past.{Clear, clear, ready, fcr-ranged, afrr-second-fair, afrr-fair, mfrr-accepted, over-bytes}
 use Rattle.plant.proofs.TurnedDown.{same-turned-down}
-use Rattle.plant.proofs.QuarterHour.{quarter-hour, fault-no-kind, refuses-record, stays, call-accepted}
+use Rattle.plant.proofs.QuarterHour.{quarter-hour, fault-no-kind, refuses-record, stays, call-accepted, free-again}
 
 -- ---- one second
 
@@ -228,4 +228,5 @@ claims =
       quarter-hour = quarter-hour;
       fault-no-kind = fault-no-kind;
       stuck = stuck;
+      free-again = free-again;
     }

@@ -22,9 +22,10 @@ use Rattle.mfrr.specs.Refusals.{targetOut, endOut, ninth, callRules, rulesAt, r
 use Rattle.mfrr.specs.State.{secondOf}
 use Rattle.mfrr.proofs.Claims as mfrr-claims
 use Rattle.plant.specs.Seconds.{History, lastStatus, mfrrSecond, mfrrPast, setpointsAt}
-use Rattle.plant.specs.Refusals.{heldOut, deviationOut, powerOut, setpointOut, callFilled, callOut, kindMoved, anyMoved, statusMoved, rangeRules, recordRules, recordNumber, offMoves, offRules, offNumber, recordNumberAt, lengthRule, numberAt, freeNumberAt, Accepted, grownBy, grown}
+use Rattle.plant.specs.Refusals.{heldOut, deviationOut, powerOut, setpointOut, callFilled, callOut, kindMoved, anyMoved, statusMoved, rangeRules, recordRules, recordNumber, offMoves, offRules, offNumber, recordNumberAt, lengthRule, numberAt, freeRulesAt, freeNumberAt, Accepted, grownBy, grown}
 use Rattle.plant.specs.Rows.{answerBy, answerAt, rowAt}
 use Rattle.plant.specs.Run.{PlantSecond, accepted}
+use Rattle.plant.specs.Values.{inStatus}
 use Rattle.plant.specs.Claims.{QuarterHour, Stuck, callWhileOff}
 use Rattle.plant.proofs.Past.{number-parts}
 
@@ -138,3 +139,7 @@ module _ (h : History) (refuses : (s : List ℕ) → numberAt h s ≡ 0 → ⊥)
 pub call-accepted : Accepted callWhileOff
 unfolding Accepted recordNumberAt bitsOf faultIn kindMoved anyMoved statusMoved setpointOf outside heldOut deviationOut powerOut setpointOut callFilled callOut offMoves isResting lastOf through phaseAt rampPart rampUp rampDown valueOf valueAt signal phaseNow setpointAt ended leftovers counting targetOut endOut ninth callRules rulesAt secondOf
 call-accepted = (refl, (refl, tt))
+
+pub free-again : first (freeRulesAt callWhileOff (inStatus 4)) ≡ 0
+unfolding bitsOf faultIn kindMoved anyMoved statusMoved setpointOf outside heldOut deviationOut powerOut setpointOut callFilled callOut offMoves isResting lastOf through phaseAt rampPart rampUp rampDown valueOf valueAt signal phaseNow setpointAt ended leftovers counting targetOut endOut ninth callRules rulesAt secondOf
+free-again = refl

@@ -8,6 +8,7 @@ use mathlib.Core.List.{List, [], _∷_}
 use lib.IntN.{ℤ, pos, natAbs, _+ℤ_}
 use lib.ListN.{length}
 use Rattle.numbers.specs.Bounds.{Within}
+use Rattle.numbers.specs.Rules.{first}
 use Rattle.record.specs.declared.Record.{Record}
 use Rattle.record.specs.Record.{recordOf, bitsOf}
 use Rattle.row.specs.Fits.{Row32}
@@ -17,7 +18,7 @@ use Rattle.sharing.specs.Sizes.{SizedRow}
 use Rattle.sharing.specs.Shares.{someOn}
 use Rattle.sharing.specs.Rows.{kindsOn, errorOf, totalOf, three}
 use Rattle.plant.specs.Seconds.{History, lastStatus}
-use Rattle.plant.specs.Refusals.{statusMoved, recordNumberAt, numberAt, baseNumberAt, freeNumberAt, Accepted}
+use Rattle.plant.specs.Refusals.{statusMoved, recordNumberAt, numberAt, baseNumberAt, freeRulesAt, freeNumberAt, Accepted}
 use Rattle.plant.specs.Rows.{kindsAt, sharedDifference, rowAt, answerBy, answerAt}
 use Rattle.plant.specs.State.{stateOf, OverPast, Ready, stepIn}
 use Rattle.mfrr.specs.Signal.{quarterHour}
@@ -91,3 +92,5 @@ pub record Claims : Type 0 where
   -- "bit 3 is never a kind"
   pub fault-no-kind : (n : ℕ) → bitsOf (n + 8) ≡ bitsOf n
   pub stuck : Stuck callWhileOff
+  -- it is 26 alone that keeps mFRR from going on there
+  pub free-again : first (freeRulesAt callWhileOff (inStatus 4)) ≡ 0
