@@ -94,6 +94,11 @@ impl Signal {
         }
     }
 
+    /// Whether the signal gives 0 in each of `count` seconds from `now` on, if no call comes.
+    pub fn stays_zero(&self, now: i64, count: i64) -> bool {
+        (now..now + count).all(|second| self.setpoint(second) == 0)
+    }
+
     pub fn resting(&self, now: i64) -> bool {
         match self.call {
             Some(call) => call.phase(now) == Phase::Resting,

@@ -23,9 +23,14 @@ pub struct Row {
     pub open: i64,
 }
 
-/// A plant's past: the setpoints of all seconds from 0 on, aFRR's carried limits, mFRR's signal.
+/// A status: bits 0 to 2 are the kinds, bit 3 marks a technical fault and is never a kind.
+pub const KINDS: u8 = 7;
+pub const FAULT: u8 = 8;
+
+/// A plant's past: its last status, the setpoints of all seconds from 0 on, aFRR's carried limits, mFRR's signal.
 #[derive(Clone, Debug, Default, PartialEq)]
 pub struct Plant {
+    pub status: u8,
     pub fcr: Vec<i64>,
     pub afrr: Vec<i64>,
     pub afrr_limits: Limits,
@@ -49,6 +54,14 @@ fn outside(value: i64, lowest: i64, highest: i64) -> bool {
 impl Plant {
     pub fn seconds(&self) -> usize {
         self.fcr.len()
+    }
+
+    /// "Source document 002 lets pool status change at multiples of 900 seconds only, except after a technical fault":
+    /// off those multiples no kind goes on, and one goes off only with bit 3 in the same second.
+    fn may_change(&self, now: i64, status: u8) -> bool {
+        let goes_on = status & !self.status & KINDS != 0;
+        let goes_off = self.status & !status & KINDS != 0;
+        now % 900 == 0 || (!goes_on && (!goes_off || status & FAULT != 0))
     }
 
     /// The refusal numbers in order, for the second that comes next.
@@ -80,8 +93,11 @@ impl Plant {
         if outside(record.afrr_setpoint as i64, -1_000_000, 1_000_000) {
             return Err(5);
         }
-        if record.status > 7 {
+        if record.status > KINDS + FAULT {
             return Err(6);
+        }
+        if !self.may_change(now, record.status) {
+            return Err(26);
         }
         if record.call > 1 || (record.call == 0 && (target != 0 || end != 0)) {
             return Err(7);
@@ -122,6 +138,7 @@ impl Plant {
         if let Some(signal) = accepted.called {
             self.mfrr = signal;
         }
+        self.status = record.status;
         self.fcr.push(accepted.setpoints[0]);
         self.afrr.push(accepted.setpoints[1]);
         self.afrr_limits = afrr::limits(

@@ -1,6 +1,6 @@
 //! Document 02, W2: 11 for FCR, 24 for aFRR, 25 for mFRR, each off with a setpoint that isn't 0, the first that applies.
 
-use reference::plant::Plant;
+use reference::plant::{Plant, FAULT};
 use reference::record::Record;
 
 /// A plant whose mFRR signal gives 10 kW at its next second, with a record that has a setpoint for each wanted kind.
@@ -19,7 +19,7 @@ fn refused(wanted: [bool; 3], status: u8) -> Option<u8> {
         fcr_held: 400,
         deviation: if wanted[0] { 50 } else { 0 },
         afrr_setpoint: if wanted[1] { -1 } else { 0 },
-        status,
+        status: status | FAULT, // off at second 1
         ..Record::default()
     };
     plant.consider(&record.write()).err()

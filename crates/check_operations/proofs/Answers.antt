@@ -20,7 +20,7 @@ blankRecord = recordOf (blank size)
 
 full : (st : PlantState) → st .seconds ≡ mostSeconds → plantNumber st (blank size) ≡ 1
 unfolding stepIn readingOf recordStepIn recordNumber
-full st e = ap (λ (n : ℕ). numberIn (stepBy (recordNumber n blankRecord) st (callStepIn st blankRecord (pos 0) (pos 0)) .answer)) e
+full st e = ap (λ (n : ℕ). numberIn (stepBy (recordNumber n (st .«last_status») blankRecord) st (callStepIn st blankRecord (pos 0) (pos 0)) .answer)) e
 
 pub answers : Answers
 unfolding stepIn readingOf book.stepIn formNumber blockNumber weights checkOf

@@ -38,9 +38,10 @@ use Rattle.plant.specs.Refusals.{mostPower, recordNumberAt, numberAt, Ac
 use Rattle.plant.specs.Rows.{kindsWith, kindsAt, rowAt, numberIn, says, saidBy, answerBy, answerAt, sharedDifference, figuresOf}
 use Rattle.plant.specs.State.{stateOf, OverPast, mostAdded, Added, stepIn, Ready}
 use Rattle.plant.specs.Run.{PlantSecond, stateAfter, answers, accepted, answersOver}
-use Rattle.plant.specs.Claims.{kindList, EveryList, RowHolds, Claims}
+use Rattle.plant.specs.Claims.{kindList, EveryList, RowHolds, Stuck, callWhileOff, Claims}
 use Rattle.plant.proofs.Past.{Clear, clear, ready, fcr-ranged, afrr-second-fair, afrr-fair, mfrr-accepted, over-bytes}
 use Rattle.plant.proofs.TurnedDown.{same-turned-down}
+use Rattle.plant.proofs.QuarterHour.{quarter-hour, fault-no-kind, refuses-record, stays, call-accepted, free-again}
 
 -- ---- one second
 
@@ -207,6 +208,13 @@ module _ (h : History) (a : Accepted h) (x : Record) (accepted-x : recordNumberA
 pub none-added : Added (pos 0) (pos 0)
 none-added = record { measured = within-lit mostAdded (pos 0) tt; working-point = within-lit mostPower (pos 0) tt }
 
+-- ---- a state that no second can leave
+
+stuck : Stuck callWhileOff
+stuck =
+    let refuses : (s : List ℕ) → numberAt callWhileOff s ≡ 0 → ⊥ = λ s e. refuses-record (recordOf s) (record-number callWhileOff s e) in
+    record { accepted-all = call-accepted; refuses = refuses; stays = stays callWhileOff refuses }
+
 -- ---- all of it
 
 pub claims : Claims
@@ -217,4 +225,8 @@ claims =
       row-holds = λ h a x e m w. row-holds h a x e m w;
       fits = λ h a x e. row-fits h a x e (pos 0) (pos 0) none-added;
       same-turned-down = same-turned-down;
+      quarter-hour = quarter-hour;
+      fault-no-kind = fault-no-kind;
+      stuck = stuck;
+      free-again = free-again;
     }

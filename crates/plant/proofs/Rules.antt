@@ -20,17 +20,21 @@ use Rattle.mfrr.specs.State as mfrr
 use Rattle.plant.specs.declared.PlantState.{PlantState}
 use Rattle.plant.specs.declared.Setpoints.{Setpoints}
 use Rattle.plant.specs.Seconds.{mfrrSecond, setpointsWith}
-use Rattle.plant.specs.Refusals.{recordRules, recordNumber, offRules, offNumber, rulesWith}
+use Rattle.plant.specs.Refusals.{rangeRules, rangeNumber, restRules, recordRules, recordNumber, offRules, offNumber, rulesWith}
 use Rattle.plant.specs.Rows.{numberIn}
 use Rattle.plant.specs.State.{callRulesIn, mfrrSetpointIn, recordRulesIn, rulesIn, kindsIn, acceptedIn, stepBy, givenIn, kindsStepIn, callStepIn, recordStepIn, readIn, stepIn}
 
 pub in-parts :
-    (t : ℕ) (x : Record) (calls : List Rule) (s : Setpoints) → numbered calls ≡ true
-    → first (rulesWith t x calls s) ≡ orElse (recordNumber t x) (orElse (first calls) (offNumber (bitsOf (x .status)) s))
+    (t last : ℕ) (x : Record) (calls : List Rule) (s : Setpoints) → numbered calls ≡ true
+    → first (rulesWith t last x calls s) ≡ orElse (recordNumber t last x) (orElse (first calls) (offNumber (bitsOf (x .status)) s))
 unfolding recordNumber offNumber
-in-parts t x calls s n =
-    first-append (recordRules t x) (calls ++ offRules (bitsOf (x .status)) s) refl
-    ∙ ap (orElse (recordNumber t x)) (first-append calls (offRules (bitsOf (x .status)) s) n)
+in-parts t last x calls s n =
+    first-append (recordRules t last x) (calls ++ offRules (bitsOf (x .status)) s) refl
+    ∙ ap (orElse (recordNumber t last x)) (first-append calls (offRules (bitsOf (x .status)) s) n)
+
+pub record-parts : (t last : ℕ) (x : Record) → recordNumber t last x ≡ orElse (rangeNumber t x) (first (restRules t last x))
+unfolding recordNumber rangeNumber
+record-parts t last x = first-append (rangeRules t x) (restRules t last x) refl
 
 -- ---- at any state the number of a second is the first of them
 
@@ -57,10 +61,10 @@ module _ (st : PlantState) (x : Record) where
   abbrev offNumberIn : ℕ
   offNumberIn = offNumber (bitsOf (x .status)) (setpointsWith x (mfrrSetpointIn st x))
 
-  parts : first (recordRulesIn st x) ≡ orElse (recordNumber (st .seconds) x) (orElse callNumberIn offNumberIn)
+  parts : first (recordRulesIn st x) ≡ orElse (recordNumber (st .seconds) (st .«last_status») x) (orElse callNumberIn offNumberIn)
   parts =
-      in-parts (st .seconds) x (callRulesIn (st .mfrr) (st .seconds) (mfrrSecond x)) (setpointsWith x (mfrrSetpointIn st x)) (call-numbered (st .mfrr) (st .seconds) (mfrrSecond x))
-      ∙ ap (λ (n : ℕ). orElse (recordNumber (st .seconds) x) (orElse n offNumberIn)) (call-first (st .mfrr) (st .seconds) (mfrrSecond x))
+      in-parts (st .seconds) (st .«last_status») x (callRulesIn (st .mfrr) (st .seconds) (mfrrSecond x)) (setpointsWith x (mfrrSetpointIn st x)) (call-numbered (st .mfrr) (st .seconds) (mfrrSecond x))
+      ∙ ap (λ (n : ℕ). orElse (recordNumber (st .seconds) (st .«last_status») x) (orElse n offNumberIn)) (call-first (st .mfrr) (st .seconds) (mfrrSecond x))
 
   module _ (m w : ℤ) where
     by-off : numberIn (kindsStepIn st x (mfrrSetpointIn st x) band (mfrr.acceptedIn taken .state) m w .answer) ≡ offNumberIn
@@ -83,7 +87,7 @@ module _ (st : PlantState) (x : Record) where
 
     at-record : numberIn (recordStepIn st x m w .answer) ≡ first (recordRulesIn st x)
     unfolding recordStepIn
-    at-record = go (recordNumber (st .seconds) x) ∙ sym parts
+    at-record = go (recordNumber (st .seconds) (st .«last_status») x) ∙ sym parts
       where
         go : (n : ℕ) → numberIn (stepBy n st (callStepIn st x m w) .answer) ≡ orElse n (orElse callNumberIn offNumberIn)
         go zero = by-call

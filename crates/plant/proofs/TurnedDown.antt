@@ -11,7 +11,7 @@ use Rattle.record.specs.declared.KindBits.{KindBits}
 use Rattle.record.specs.Record.{recordOf, bitsOf}
 use Rattle.mfrr.specs.Refusals.{rulesAt}
 use Rattle.plant.specs.declared.Setpoints.{Setpoints}
-use Rattle.plant.specs.Seconds.{History, mfrrSecond, mfrrPast, setpointsAt}
+use Rattle.plant.specs.Seconds.{History, lastStatus, mfrrSecond, mfrrPast, setpointsAt}
 use Rattle.plant.specs.Refusals.{recordRules, offMoves, offRules, baseOffRules, lengthRule, numberAt, baseNumberAt}
 use Rattle.plant.specs.Claims.{SameTurnedDown}
 
@@ -55,5 +55,5 @@ same-turned-down h s =
     let off = offRules (bitsOf (x .status)) (setpointsAt h x) in
     let base = baseOffRules (bitsOf (x .status)) (setpointsAt h x) in
     let calls = rulesAt (mfrrPast h) (mfrrSecond x) in
-    after (lengthRule s ∷ recordRules (length h) x) (calls ++ off) (calls ++ base)
+    after (lengthRule s ∷ recordRules (length h) (lastStatus h) x) (calls ++ off) (calls ++ base)
     (after calls off base (of-kinds-off (bitsOf (x .status)) (setpointsAt h x)))

@@ -1,18 +1,18 @@
 -- The values of specs/Values.antt, computed. Assumes nothing.
 use mathlib.Core.Path.{refl}
-use Rattle.record.specs.Record.{bitsOf}
+use Rattle.record.specs.Record.{bitsOf, faultIn}
 use Rattle.fcr.specs.Setpoint.{setpointOf}
 use Rattle.numbers.specs.Bounds.{outside}
 use Rattle.mfrr.specs.Signal.{isResting, lastOf, through, phaseAt, rampPart, rampUp, rampDown, valueOf, valueAt, signal, phaseNow, setpointAt}
 use Rattle.mfrr.specs.Leftovers.{ended, leftovers, counting}
 use Rattle.mfrr.specs.Refusals.{targetOut, endOut, ninth, callRules, rulesAt}
 use Rattle.mfrr.specs.State.{secondOf}
-use Rattle.plant.specs.Refusals.{heldOut, deviationOut, powerOut, setpointOut, callFilled, callOut, recordNumber, offMoves, offNumber, recordNumberAt, numberAt}
+use Rattle.plant.specs.Refusals.{heldOut, deviationOut, powerOut, setpointOut, callFilled, callOut, kindMoved, anyMoved, statusMoved, recordNumber, offMoves, offNumber, recordNumberAt, numberAt}
 use Rattle.plant.specs.Rows.{kindsWith}
 use Rattle.plant.specs.Values.{Values}
 
 values : Values
-unfolding bitsOf setpointOf outside heldOut deviationOut powerOut setpointOut callFilled callOut recordNumber offMoves offNumber recordNumberAt numberAt kindsWith isResting lastOf through phaseAt rampPart rampUp rampDown valueOf valueAt signal phaseNow setpointAt ended leftovers counting targetOut endOut ninth callRules rulesAt secondOf
+unfolding bitsOf faultIn kindMoved anyMoved statusMoved setpointOf outside heldOut deviationOut powerOut setpointOut callFilled callOut recordNumber offMoves offNumber recordNumberAt numberAt kindsWith isResting lastOf through phaseAt rampPart rampUp rampDown valueOf valueAt signal phaseNow setpointAt ended leftovers counting targetOut endOut ninth callRules rulesAt secondOf
 values =
     record {
       one = refl;
@@ -21,6 +21,12 @@ values =
       four = refl;
       five = refl;
       six = refl;
+      twenty-six-on = refl;
+      twenty-six-off = refl;
+      twenty-six-both = refl;
+      earlier-fault = refl;
+      quarter-hours = refl;
+      last-status = refl;
       seven = refl;
       all-on = refl;
       off-at-0 = refl;
@@ -33,6 +39,8 @@ values =
       twelve = refl;
       one-first = refl;
       in-order = refl;
+      six-first = refl;
+      twenty-six-first = refl;
       groups = refl;
       twelve-first = refl;
       on-first = refl;

@@ -1,23 +1,28 @@
 -- What is claimed of a plant second: of every list from a fresh state, and of every accepted second's row. The proof is `claims` of
 -- proofs/Claims.antt.
-use Prim.Native.Nat.{ℕ, _≤_}
+use Prim.Native.Nat.{ℕ, _+_, _%_, _≤_}
 use mathlib.Core.Path.{_≡_}
 use mathlib.Core.Logic.{_↔_, _⊎_}
-use mathlib.Core.Bool.{true}
-use mathlib.Core.List.{List, []}
+use mathlib.Core.Bool.{true, false}
+use mathlib.Core.List.{List, [], _∷_}
 use lib.IntN.{ℤ, pos, natAbs, _+ℤ_}
+use lib.ListN.{length}
 use Rattle.numbers.specs.Bounds.{Within}
+use Rattle.numbers.specs.Rules.{first}
 use Rattle.record.specs.declared.Record.{Record}
+use Rattle.record.specs.Record.{recordOf, bitsOf}
 use Rattle.row.specs.Fits.{Row32}
 use Rattle.row.specs.Row.{kindsOf, AllInBand, sumActuals}
 use Rattle.sharing.specs.declared.kinds.Kind.{Kind}
 use Rattle.sharing.specs.Sizes.{SizedRow}
 use Rattle.sharing.specs.Shares.{someOn}
 use Rattle.sharing.specs.Rows.{kindsOn, errorOf, totalOf, three}
-use Rattle.plant.specs.Seconds.{History}
-use Rattle.plant.specs.Refusals.{recordNumberAt, numberAt, baseNumberAt, Accepted}
-use Rattle.plant.specs.Rows.{kindsAt, sharedDifference, rowAt}
+use Rattle.plant.specs.Seconds.{History, lastStatus}
+use Rattle.plant.specs.Refusals.{statusMoved, recordNumberAt, numberAt, baseNumberAt, freeRulesAt, freeNumberAt, Accepted}
+use Rattle.plant.specs.Rows.{kindsAt, sharedDifference, rowAt, answerBy, answerAt}
 use Rattle.plant.specs.State.{stateOf, OverPast, Ready, stepIn}
+use Rattle.mfrr.specs.Signal.{quarterHour}
+use Rattle.plant.specs.Values.{inStatus, calling}
 use Rattle.plant.specs.Run.{PlantSecond, stateAfter, answers, accepted, answersOver}
 
 -- the past that the definitions see is exactly the accepted seconds
@@ -55,6 +60,25 @@ pub record SameTurnedDown (n base : ℕ) : Type 0 where
   pub other-numbers : (base ≡ 11 → ⊥) → n ≡ base
   pub which-kind : base ≡ 11 → (n ≡ 11) ⊎ ((n ≡ 24) ⊎ (n ≡ 25))
 
+-- 02, W3, of the second of bytes s after the past h
+pub record QuarterHour (h : History) (s : List ℕ) : Type 0 where
+  -- a second that 26 doesn't stop gets the number and the row that the other rules give
+  pub other-numbers : (numberAt h s ≡ 26 → ⊥) → numberAt h s ≡ freeNumberAt h s
+  pub same-answer : (numberAt h s ≡ 26 → ⊥) → (m w : ℤ) → answerAt h s m w ≡ answerBy (freeNumberAt h s) (rowAt h (recordOf s) m w)
+  -- 26 applies to none whose kinds are on and off as in the last status, and to none at a multiple of 900
+  pub unchanged : bitsOf (recordOf s .status) ≡ bitsOf (lastStatus h) → statusMoved (length h) (lastStatus h) (recordOf s .status) ≡ false
+  pub at-multiples : length h % quarterHour ≡ 0 → statusMoved (length h) (lastStatus h) (recordOf s .status) ≡ false
+
+-- a state that no second can leave: every bytes are refused, so every list leaves it as it is
+pub record Stuck (h : History) : Type 0 where
+  pub accepted-all : Accepted h
+  pub refuses : (s : List ℕ) → numberAt h s ≡ 0 → ⊥
+  pub stays : (ss : List PlantSecond) → accepted h ss ≡ h
+
+-- the shortest: second 0 with no kind on; second 1 too, with a call to 900 kW until 1,800, accepted as the signal is still 0 there
+abbrev pub callWhileOff : History
+callWhileOff = calling 1 (pos 900) 1800 ∷ inStatus 0 ∷ []
+
 pub record Claims : Type 0 where
   pub every-list : (ss : List PlantSecond) → EveryList ss
   -- one second at the state that accepted seconds leave
@@ -64,3 +88,9 @@ pub record Claims : Type 0 where
   pub fits : (h : History) → Accepted h → (x : Record) → recordNumberAt h x ≡ 0 → Row32 (rowAt h x (pos 0) (pos 0))
   -- for every past and every bytes
   pub same-turned-down : (h : History) (s : List ℕ) → SameTurnedDown (numberAt h s) (baseNumberAt h s)
+  pub quarter-hour : (h : History) (s : List ℕ) → QuarterHour h s
+  -- "bit 3 is never a kind"
+  pub fault-no-kind : (n : ℕ) → bitsOf (n + 8) ≡ bitsOf n
+  pub stuck : Stuck callWhileOff
+  -- it is 26 alone that keeps mFRR from going on there
+  pub free-again : first (freeRulesAt callWhileOff (inStatus 4)) ≡ 0

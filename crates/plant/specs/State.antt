@@ -33,7 +33,7 @@ use Rattle.plant.specs.declared.Kinds.{Kinds}
 use Rattle.plant.specs.declared.PlantAnswer.the-variants as answer
 use Rattle.plant.specs.declared.PlantState.{PlantState}
 use Rattle.plant.specs.declared.PlantStep.{PlantStep}
-use Rattle.plant.specs.Seconds.{History, fcrSetpoint, fcrPast, afrrSecond, afrrPast, mfrrSecond, mfrrPast, setpointsWith}
+use Rattle.plant.specs.Seconds.{History, lastStatus, fcrSetpoint, fcrPast, afrrSecond, afrrPast, mfrrSecond, mfrrPast, setpointsWith}
 use Rattle.plant.specs.Refusals.{mostPower, recordNumber, offNumber, rulesWith, lengthRule, numberAt, Accepted, grown}
 use Rattle.plant.specs.Rows.{kindsWith, sharedDifference, rowBy, saidAt, answerAt, says, numberIn}
 
@@ -44,6 +44,7 @@ unfoldable pub stateOf : History → PlantState
 stateOf h =
     record {
       seconds = length h;
+      «last_status» = lastStatus h;
       fcr = fcr.stateOf (fcrPast h);
       afrr = afrr.stateOf (afrrPast h);
       mfrr = mfrr.stateOf (mfrrPast h);
@@ -71,7 +72,7 @@ mfrrSetpointIn st x = kw (mfrr.valueIn (mfrr.takenIn (st .mfrr) (st .seconds) (m
 
 -- the rules of specs/Refusals.antt, in their order
 abbrev pub recordRulesIn : PlantState → Record → List Rule
-recordRulesIn st x = rulesWith (st .seconds) x (callRulesIn (st .mfrr) (st .seconds) (mfrrSecond x)) (setpointsWith x (mfrrSetpointIn st x))
+recordRulesIn st x = rulesWith (st .seconds) (st .«last_status») x (callRulesIn (st .mfrr) (st .seconds) (mfrrSecond x)) (setpointsWith x (mfrrSetpointIn st x))
 
 abbrev pub rulesIn : PlantState → List ℕ → List Rule
 rulesIn st s = lengthRule s ∷ recordRulesIn st (recordOf s)
@@ -92,13 +93,13 @@ mfrrStepIn st x = mfrr.stepIn (st .mfrr) (st .seconds) (mfrrSecond x)
 abbrev pub kindsIn : PlantState → Record → Kw → Band → Kinds
 kindsIn st x s b = kindsWith x (setpointsWith x s) (fcrStepIn st x .band) (afrrStepIn st x .band) b
 
--- the state after an accepted second, by the kinds' states after it
-abbrev pub nextWith : PlantState → FcrState → AfrrState → MfrrState → PlantState
-nextWith st fcr afrr mfrr = record { seconds = st .seconds + 1; fcr = fcr; afrr = afrr; mfrr = mfrr }
+-- the state after an accepted second of status n, by the kinds' states after it
+abbrev pub nextWith : PlantState → ℕ → FcrState → AfrrState → MfrrState → PlantState
+nextWith st n fcr afrr mfrr = record { seconds = st .seconds + 1; «last_status» = n; fcr = fcr; afrr = afrr; mfrr = mfrr }
 
 -- after record x, where mFRR's is `next`: the carried limits run on, whether a kind is on or off
 unfoldable pub grownIn : PlantState → Record → MfrrState → PlantState
-grownIn st x next = nextWith st (fcrStepIn st x .state) (afrrStepIn st x .state) next
+grownIn st x next = nextWith st (x .status) (fcrStepIn st x .state) (afrrStepIn st x .state) next
 
 -- "State unchanged, no row"
 abbrev pub refusedIn : PlantState → ℕ → PlantStep
@@ -113,7 +114,7 @@ stepBy (suc n) st given = refusedIn st (suc n)
 abbrev pub acceptedIn : PlantState → Record → Kinds → MfrrState → ℤ → ℤ → PlantStep
 acceptedIn st x k next m w = record { answer = answer.Row (rowBy x k m w); state = grownIn st x next }
 
--- 11, after what mFRR gave
+-- 11, 24 and 25, after what mFRR gave
 unfoldable pub kindsStepIn : PlantState → Record → Kw → Band → MfrrState → ℤ → ℤ → PlantStep
 kindsStepIn st x s b next m w =
     stepBy (offNumber (bitsOf (x .status)) (setpointsWith x s)) st (acceptedIn st x (kindsIn st x s b) next m w)
@@ -126,9 +127,9 @@ givenIn (mfrr-answer.Refused n) next st x m w = refusedIn st n
 unfoldable pub callStepIn : PlantState → Record → ℤ → ℤ → PlantStep
 callStepIn st x m w = givenIn (mfrrStepIn st x .answer) (mfrrStepIn st x .state) st x m w
 
--- 1 to 7
+-- 1 to 6, 26 and 7
 unfoldable pub recordStepIn : PlantState → Record → ℤ → ℤ → PlantStep
-recordStepIn st x m w = stepBy (recordNumber (st .seconds) x) st (callStepIn st x m w)
+recordStepIn st x m w = stepBy (recordNumber (st .seconds) (st .«last_status») x) st (callStepIn st x m w)
 
 -- 12
 abbrev pub readIn : Reading → PlantState → ℤ → ℤ → PlantStep

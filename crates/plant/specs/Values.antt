@@ -2,7 +2,7 @@
 -- proofs/Values.antt.
 use mathlib.Core.Path.{_≡_}
 use mathlib.Core.Bool.{Bool, true, false}
-use mathlib.Core.List.{[], _∷_, map}
+use mathlib.Core.List.{List, [], _∷_, map}
 use Prim.Native.Nat.{ℕ}
 use lib.IntN.{ℤ, pos, negsuc, negℤ}
 use lib.ListN.{replicate}
@@ -56,6 +56,10 @@ inStatus n = fields (pos 0) (pos 0) (pos 0) (pos 0) (pos 0) (pos 0) (pos 0) 0 (p
 abbrev pub calling : ℕ → ℤ → ℕ → Record
 calling c e D = fields (pos 0) (pos 0) (pos 0) (pos 0) (pos 0) (pos 0) e D (pos 0) 0 c
 
+-- the numbers of records of these statuses, at second t after the status `last`
+abbrev pub statuses : ℕ → ℕ → List ℕ → List ℕ
+statuses t last ns = map (λ (n : ℕ). recordNumber t last (inStatus n)) ns
+
 -- every rule from 2 on applies; all but 2, ..
 abbrev million : ℤ
 million = pos 1000001
@@ -91,9 +95,9 @@ kindsOn f a m =
 
 pub record Values : Type 0 where
   -- ---- the ends of each range (01, "When a book is turned down")
-  pub one : map (λ (t : ℕ). recordNumber t (inStatus 0)) (89999 ∷ 90000 ∷ []) ≡ 0 ∷ 1 ∷ []
+  pub one : map (λ (t : ℕ). recordNumber t 0 (inStatus 0)) (89999 ∷ 90000 ∷ []) ≡ 0 ∷ 1 ∷ []
   pub two :
-      map (recordNumber 0)
+      map (recordNumber 0 0)
       (held (pos 1000000) (pos 1000000) (pos 1000000)
       ∷ held million (pos 0) (pos 0)
       ∷ held (pos 0) million (pos 0)
@@ -103,9 +107,9 @@ pub record Values : Type 0 where
       ∷ held (pos 0) (pos 0) (negsuc 0)
       ∷ [])
       ≡ 0 ∷ 2 ∷ 2 ∷ 2 ∷ 2 ∷ 2 ∷ 2 ∷ []
-  pub three : map (λ (f : ℤ). recordNumber 0 (deviating f)) (pos 5000 ∷ negℤ (pos 5000) ∷ pos 5001 ∷ negℤ (pos 5001) ∷ []) ≡ 0 ∷ 0 ∷ 3 ∷ 3 ∷ []
+  pub three : map (λ (f : ℤ). recordNumber 0 0 (deviating f)) (pos 5000 ∷ negℤ (pos 5000) ∷ pos 5001 ∷ negℤ (pos 5001) ∷ []) ≡ 0 ∷ 0 ∷ 3 ∷ 3 ∷ []
   pub four :
-      map (recordNumber 0)
+      map (recordNumber 0 0)
       (powers (pos 4000000) (negℤ (pos 4000000))
       ∷ powers (negℤ (pos 4000000)) (pos 4000000)
       ∷ powers (pos 4000001) (pos 0)
@@ -114,10 +118,20 @@ pub record Values : Type 0 where
       ∷ powers (pos 0) (negℤ (pos 4000001))
       ∷ [])
       ≡ 0 ∷ 0 ∷ 4 ∷ 4 ∷ 4 ∷ 4 ∷ []
-  pub five : map (λ (s : ℤ). recordNumber 0 (afrrAt s)) (pos 1000000 ∷ negℤ (pos 1000000) ∷ million ∷ negℤ million ∷ []) ≡ 0 ∷ 0 ∷ 5 ∷ 5 ∷ []
-  pub six : map (λ (n : ℕ). recordNumber 0 (inStatus n)) (7 ∷ 8 ∷ []) ≡ 0 ∷ 6 ∷ []
+  pub five : map (λ (s : ℤ). recordNumber 0 0 (afrrAt s)) (pos 1000000 ∷ negℤ (pos 1000000) ∷ million ∷ negℤ million ∷ []) ≡ 0 ∷ 0 ∷ 5 ∷ 5 ∷ []
+  pub six : map (λ (n : ℕ). recordNumber 0 0 (inStatus n)) (15 ∷ 16 ∷ []) ≡ 0 ∷ 6 ∷ []
+  -- 26, by the last status: off the quarter hours no kind goes on, with a fault or without; one goes off under this second's fault alone; bit 3 may
+  -- change at any second
+  pub twenty-six-on : statuses 1 0 (0 ∷ 1 ∷ 2 ∷ 4 ∷ 8 ∷ 9 ∷ 10 ∷ 12 ∷ []) ≡ 0 ∷ 26 ∷ 26 ∷ 26 ∷ 0 ∷ 26 ∷ 26 ∷ 26 ∷ []
+  pub twenty-six-off : statuses 1 7 (7 ∷ 6 ∷ 5 ∷ 3 ∷ 15 ∷ 14 ∷ 13 ∷ 11 ∷ 8 ∷ []) ≡ 0 ∷ 26 ∷ 26 ∷ 26 ∷ 0 ∷ 0 ∷ 0 ∷ 0 ∷ 0 ∷ []
+  pub twenty-six-both : statuses 1 1 (2 ∷ 10 ∷ []) ≡ 26 ∷ 26 ∷ []
+  pub earlier-fault : statuses 1 15 (7 ∷ 0 ∷ 8 ∷ []) ≡ 0 ∷ 26 ∷ 0 ∷ []
+  -- at the multiples every change is free
+  pub quarter-hours : map (λ (t : ℕ). recordNumber t 0 (inStatus 7)) (0 ∷ 1 ∷ 899 ∷ 900 ∷ 901 ∷ 1800 ∷ []) ≡ 0 ∷ 26 ∷ 26 ∷ 0 ∷ 26 ∷ 0 ∷ []
+  -- the last status is the newest accepted second's, 0 before second 0
+  pub last-status : map (recordNumberAt (inStatus 1 ∷ [])) (inStatus 1 ∷ inStatus 0 ∷ inStatus 8 ∷ inStatus 2 ∷ []) ≡ 0 ∷ 26 ∷ 0 ∷ 26 ∷ []
   pub seven :
-      map (recordNumber 0)
+      map (recordNumber 0 0)
       (calling 1 (pos 1) 1 ∷ calling 2 (pos 0) 0 ∷ calling 0 (pos 1) 0 ∷ calling 0 (negsuc 0) 0 ∷ calling 0 (pos 0) 1 ∷ [])
       ≡ 0 ∷ 7 ∷ 7 ∷ 7 ∷ 7 ∷ []
   -- a kind on may have any setpoint, one off 0 alone; each kind by its own bit, with its own number
@@ -140,20 +154,22 @@ pub record Values : Type 0 where
   pub off-in-a-call : map (recordNumberAt (calling 1 (pos 900) 1800 ∷ [])) (inStatus 0 ∷ calling 1 (pos 0) 1800 ∷ []) ≡ 25 ∷ 25 ∷ []
   pub twelve : map (λ (n : ℕ). lengthRule (replicate n 0) .applies) (35 ∷ 36 ∷ 37 ∷ []) ≡ true ∷ false ∷ true ∷ []
   -- ---- their order
-  pub one-first : recordNumber 90000 (broken (negsuc 0) (pos 5001) (pos 4000001) million 8) ≡ 1
+  pub one-first : recordNumber 90000 0 (broken (negsuc 0) (pos 5001) (pos 4000001) million 16) ≡ 1
   pub in-order :
-      map (recordNumber 0)
-      (broken (negsuc 0) (pos 5001) (pos 4000001) million 8
-      ∷ broken (pos 0) (pos 5001) (pos 4000001) million 8
-      ∷ broken (pos 0) (pos 0) (pos 4000001) million 8
-      ∷ broken (pos 0) (pos 0) (pos 0) million 8
-      ∷ broken (pos 0) (pos 0) (pos 0) (pos 1) 8
+      map (recordNumber 0 0)
+      (broken (negsuc 0) (pos 5001) (pos 4000001) million 16
+      ∷ broken (pos 0) (pos 5001) (pos 4000001) million 16
+      ∷ broken (pos 0) (pos 0) (pos 4000001) million 16
+      ∷ broken (pos 0) (pos 0) (pos 0) million 16
+      ∷ broken (pos 0) (pos 0) (pos 0) (pos 1) 16
       ∷ broken (pos 0) (pos 0) (pos 0) (pos 1) 7
       ∷ [])
       ≡ 2 ∷ 3 ∷ 4 ∷ 5 ∷ 6 ∷ 7 ∷ []
+  pub six-first : recordNumber 1 0 (broken (pos 0) (pos 0) (pos 0) (pos 1) 17) ≡ 6
+  pub twenty-six-first : recordNumber 1 0 (broken (pos 0) (pos 0) (pos 0) (pos 1) 7) ≡ 26
   -- 7, then mFRR's, then those of the kinds off; 12 before all
   pub groups :
-      map (λ (x : Record). first (rulesWith 0 x (refuse 8 true ∷ []) (setpoints (pos 1) (pos 0) (pos 0)))) (calling 2 (pos 0) 0 ∷ calling 1 (pos 0) 0 ∷ [])
+      map (λ (x : Record). first (rulesWith 0 0 x (refuse 8 true ∷ []) (setpoints (pos 1) (pos 0) (pos 0)))) (calling 2 (pos 0) 0 ∷ calling 1 (pos 0) 0 ∷ [])
       ≡ 7 ∷ 8 ∷ []
   pub twelve-first : numberAt [] (replicate 35 255) ≡ 12
   -- ---- what stands where

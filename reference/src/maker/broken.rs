@@ -5,6 +5,7 @@ use super::random::Random;
 use super::tracks::{seconds, Calls, End, Errors, Mover, Track, Values};
 use super::{book_blocks, Second};
 use crate::block::{seal, LENGTH};
+use crate::plant::FAULT;
 use crate::record::Record;
 use std::array;
 
@@ -48,7 +49,7 @@ impl Place {
 const PLANTS: [&str; 3] = ["U", "A", "B"];
 
 /// The numbers of a plant second that a book can reach, in the order in which they are given.
-const NUMBERS: [u8; 12] = [2, 3, 4, 5, 6, 7, 8, 9, 10, 11, 24, 25];
+const NUMBERS: [u8; 13] = [2, 3, 4, 5, 6, 26, 7, 8, 9, 10, 11, 24, 25];
 
 #[derive(Clone, Copy, Debug)]
 pub enum Fault {
@@ -62,6 +63,7 @@ pub enum Fault {
     TwoPlants(usize, usize),
     /// Faults in two seconds that follow each other.
     TwoSeconds,
+    Quarter(Quarter),
     Input(Input, Length),
     Header(Header),
     Block(Block, Place),
@@ -128,10 +130,59 @@ pub enum Mixed {
     CheckThenMore,
 }
 
-const NEXT_TO_EACH_OTHER: [&[u8]; 9] = [&[2, 3], &[3, 4], &[4, 5], &[5, 6], &[6, 7], &[7, 8], &[8, 9], &[9, 10], &[10, 11]];
+const NEXT_TO_EACH_OTHER: [&[u8]; 11] = [
+    &[2, 3],
+    &[3, 4],
+    &[4, 5],
+    &[5, 6],
+    &[6, 26],
+    &[6, 7],
+    &[26, 7],
+    &[7, 8],
+    &[8, 9],
+    &[9, 10],
+    &[10, 11],
+];
 
 /// Two and three kinds off at once whose setpoints aren't 0.
 const KINDS_OFF: [&[u8]; 4] = [&[11, 24], &[11, 25], &[24, 25], &[11, 24, 25]];
+
+/// A status that changes against the quarter hour, and states that no second can leave.
+#[derive(Clone, Copy, Debug)]
+pub enum Quarter {
+    OnWithoutFault,
+    OnUnderFault,
+    /// With bit 3: the one change would be right, the other isn't.
+    OneOffOneOn,
+    /// Bit 3 counts in the very second only.
+    FaultASecondBefore,
+    BackAfterFault,
+    /// Second 899 or 901.
+    OffBesideMultiple(usize),
+    OnBesideMultiple(usize),
+    /// mFRR off and a call, which has value 0 in its own second; then off, on, or off and called again.
+    StuckOff,
+    StuckOn,
+    StuckCalled,
+    /// A fault takes mFRR off while a ramp passes 0.
+    RampThroughZero,
+}
+
+const QUARTERS: [Quarter; 13] = [
+    Quarter::OnWithoutFault,
+    Quarter::OnUnderFault,
+    Quarter::OneOffOneOn,
+    Quarter::FaultASecondBefore,
+    Quarter::BackAfterFault,
+    Quarter::OffBesideMultiple(899),
+    Quarter::OffBesideMultiple(901),
+    Quarter::OnBesideMultiple(899),
+    Quarter::OnBesideMultiple(901),
+    Quarter::StuckOff,
+    Quarter::StuckOn,
+    Quarter::StuckCalled,
+    Quarter::RampThroughZero,
+];
 
 /// All cases, in turn.
 pub fn cases() -> Vec<Fault> {
@@ -150,6 +201,7 @@ pub fn cases() -> Vec<Fault> {
     cases.push(Fault::AnyTwoInOne);
     cases.extend([Fault::TwoPlants(0, 1), Fault::TwoPlants(0, 2), Fault::TwoPlants(1, 2)]);
     cases.push(Fault::TwoSeconds);
+    cases.extend(QUARTERS.map(Fault::Quarter));
     for input in [Input::Empty, Input::HeaderCut, Input::HeaderOnly, Input::FirstBlockCut] {
         cases.push(Fault::Input(input, Length::Short));
     }
@@ -218,6 +270,7 @@ pub fn make(turn: u64, owner: u8, random: &mut Random) -> Made {
         Fault::Plant(number, plant, place) => {
             let mut seconds = base(owner, place.length(), full_if(number == 10, plant), random);
             let at = second_of(place, number, seconds.len(), random);
+            let at = if number == 26 { off_multiples(at) } else { at };
             let way = if place == Place::Late { random.index(9) } else { 3 * place as usize + plant };
             spoil(&mut seconds[at][plant], number, way, at, random);
             let name = format!("broken, {} in {} at the {:?} second", number, PLANTS[plant], place);
@@ -236,9 +289,9 @@ pub fn make(turn: u64, owner: u8, random: &mut Random) -> Made {
         Fault::TwoPlants(earlier, later) => {
             let smaller = random.within(2, 8);
             let between = random.within(smaller + 1, 9);
-            let larger = random.pick(&[9, 11, 24, 25, between]) as u8;
+            let larger = random.pick(&[9, 11, 24, 25, 26, between]) as u8;
             let mut seconds = base(owner, random.pick(&LENGTHS), None, random);
-            let at = random.within(1, seconds.len() as i64 - 1) as usize;
+            let at = off_multiples(random.within(1, seconds.len() as i64 - 1) as usize);
             let (one, other) = (random.index(9), random.index(9));
             spoil(&mut seconds[at][earlier], larger, one, at, random);
             spoil(&mut seconds[at][later], smaller as u8, other, at, random);
@@ -255,6 +308,7 @@ pub fn make(turn: u64, owner: u8, random: &mut Random) -> Made {
             let name = format!("broken, {} in B, 2 in U a second later", number);
             made(name, book_blocks(owner, &seconds).concat(), number, at)
         }
+        Fault::Quarter(quarter) => of_quarter(quarter, owner, random),
         Fault::Input(input, length) => of_input(input, length, owner, random),
         Fault::Header(header) => of_header(header, owner, random),
         Fault::Block(block, place) => of_block(block, place, owner, random),
@@ -268,6 +322,7 @@ fn several(numbers: &[u8], plant: usize, owner: u8, random: &mut Random) -> Made
     let mut seconds = base(owner, place.length(), full_if(numbers.contains(&10), plant), random);
     let latest = numbers.iter().copied().max_by_key(|&number| first_second_for(number)).expect("a number");
     let at = second_of(place, latest, seconds.len(), random);
+    let at = if numbers.contains(&26) { off_multiples(at) } else { at };
     for &number in numbers.iter().rev() {
         let way = random.index(9);
         spoil(&mut seconds[at][plant], number, way, at, random);
@@ -296,6 +351,15 @@ fn full_if(full: bool, plant: usize) -> Option<usize> {
 /// The seconds of a sound book, all kinds on. With a plant named, that one calls at every second until all eight
 /// places are taken, at second 8, and no place is freed before second 901.
 fn base(owner: u8, length: Length, full: Option<usize>, random: &mut Random) -> Vec<Second> {
+    let count = match length {
+        Length::Short => random.within(50, 160),
+        Length::Long => random.within(700, 1_100),
+    };
+    base_of(owner, count as usize, full, random)
+}
+
+/// The same with so many seconds.
+fn base_of(owner: u8, count: usize, full: Option<usize>, random: &mut Random) -> Vec<Second> {
     let mut tracks: [Track; 3] = array::from_fn(|plant| Track {
         fcr_held: Mover::fixed(random.within(1, 9) * 400),
         deviation: Mover::new(Values::Walk(20, -180, 180), &[1]),
@@ -309,19 +373,25 @@ fn base(owner: u8, length: Length, full: Option<usize>, random: &mut Random) -> 
         errors: Errors::Noise(700),
         ..Track::still()
     });
-    let count = match length {
-        Length::Short => random.within(50, 160),
-        Length::Long => random.within(700, 1_100),
-    } as usize;
     seconds(owner, &mut tracks, count, random)
 }
 
-/// The first second that can have this number: all places are taken from 9 on, and mFRR's setpoint is 0 at second 0.
+/// The first second that can have this number: all places are taken from 9 on, mFRR's setpoint is 0 at second 0, and
+/// every status is free there.
 fn first_second_for(number: u8) -> usize {
     match number {
         10 => 9,
-        25 => 1,
+        25 | 26 => 1,
         _ => 0,
+    }
+}
+
+/// This second from 1 on, or the one before it where every status is free.
+fn off_multiples(second: usize) -> usize {
+    if second % 900 == 0 {
+        second - 1
+    } else {
+        second
     }
 }
 
@@ -358,7 +428,8 @@ fn spoil(record: &mut Record, number: u8, way: usize, now: usize, random: &mut R
             }
         }
         5 => record.afrr_setpoint = [1_000_001, -1_000_001, i32::MAX, i32::MIN][way % 4],
-        6 => record.status = [8, 9, 15, 16, 128, 255][way % 6],
+        6 => record.status = [16, 17, 31, 32, 128, 255][way % 6],
+        26 => record.status = 7 & !([1, 2, 4, 7, 3, 5, 6, 1, 2][way]),
         7 => {
             (record.call, record.mfrr_target, record.delivery_end) = [
                 (2, 0, 0),
@@ -387,21 +458,127 @@ fn spoil(record: &mut Record, number: u8, way: usize, now: usize, random: &mut R
         11 => {
             record.fcr_held = random.pick(&[2, 400, 1_000_000]);
             record.deviation = random.pick(&[100, -100, 200, -5_000]);
-            record.status &= !1;
+            go_off(record, 1, now);
         }
         24 => {
             record.afrr_setpoint = random.pick(&[1, -1, 1_000_000]);
-            record.status &= !2;
+            go_off(record, 2, now);
         }
         25 => {
             // the running call's value, also where a new one comes
             if way % 2 == 0 {
                 call(record, now, random);
             }
-            record.status &= !4;
+            go_off(record, 4, now);
         }
         _ => unreachable!("no number of a plant second that a book can reach"),
     }
+}
+
+/// A kind off, by a fault where it may not go off otherwise.
+fn go_off(record: &mut Record, kind: u8, now: i64) {
+    record.status &= !kind;
+    if now % 900 != 0 {
+        record.status |= FAULT;
+    }
+}
+
+/// Takes a kind off from a second on, its setpoint 0; mFRR only from second 0 on, without a call.
+fn switch_off(seconds: &mut [Second], plant: usize, kind: usize, from: usize) {
+    for (now, second) in seconds.iter_mut().enumerate().skip(from) {
+        let record = &mut second[plant];
+        match kind {
+            0 => record.fcr_held = 0,
+            1 => record.afrr_setpoint = 0,
+            _ => (record.call, record.mfrr_target, record.delivery_end) = (0, 0, 0),
+        }
+        record.status &= !(1 << kind);
+        if now == from && now % 900 != 0 {
+            record.status |= FAULT;
+        }
+    }
+}
+
+fn of_quarter(quarter: Quarter, owner: u8, random: &mut Random) -> Made {
+    let (plant, kind) = (random.index(3), random.index(3));
+    let bit = 1 << kind;
+    let mut seconds = match quarter {
+        Quarter::OffBesideMultiple(_) | Quarter::OnBesideMultiple(_) | Quarter::RampThroughZero => {
+            base_of(owner, random.within(902, 1_100) as usize, None, random)
+        }
+        _ => base(owner, random.pick(&LENGTHS), None, random),
+    };
+    let any = off_multiples(random.within(5, seconds.len() as i64 - 1) as usize);
+    let (number, at) = match quarter {
+        Quarter::OnWithoutFault | Quarter::OnUnderFault => {
+            switch_off(&mut seconds, plant, kind, 0);
+            seconds[any][plant].status |= bit;
+            if let Quarter::OnUnderFault = quarter {
+                seconds[any][plant].status |= FAULT;
+            }
+            (26, any)
+        }
+        Quarter::OneOffOneOn => {
+            switch_off(&mut seconds, plant, kind, 0);
+            let other = (kind + 1 + random.index(2)) % 3;
+            seconds[any][plant].status = (7 & !(1 << other)) | FAULT;
+            (26, any)
+        }
+        Quarter::FaultASecondBefore => {
+            seconds[any - 1][plant].status |= FAULT;
+            seconds[any][plant].status &= !bit;
+            (26, any)
+        }
+        Quarter::BackAfterFault => {
+            let kind = kind % 2;
+            switch_off(&mut seconds, plant, kind, any - 1 - random.index(4));
+            seconds[any][plant].status |= 1 << kind | random.pick(&[0, FAULT]);
+            (26, any)
+        }
+        Quarter::OffBesideMultiple(at) => {
+            seconds[at][plant].status &= !bit;
+            (26, at)
+        }
+        Quarter::OnBesideMultiple(at) => {
+            switch_off(&mut seconds, plant, kind, 0);
+            seconds[at][plant].status |= bit;
+            (26, at)
+        }
+        Quarter::StuckOff | Quarter::StuckOn | Quarter::StuckCalled => {
+            switch_off(&mut seconds, plant, 2, 0);
+            let before = &mut seconds[any - 1][plant];
+            call(before, any as i64 - 1, random);
+            before.mfrr_target = random.pick(&[900, -900, 9_000, -1_000_000]);
+            let record = &mut seconds[any][plant];
+            match quarter {
+                Quarter::StuckOn => {
+                    record.status |= 4 | random.pick(&[0, FAULT]);
+                    (26, any)
+                }
+                Quarter::StuckCalled => {
+                    call(record, any as i64, random);
+                    record.mfrr_target = 0;
+                    (25, any)
+                }
+                _ => {
+                    record.status |= random.pick(&[0, FAULT]);
+                    (25, any)
+                }
+            }
+        }
+        Quarter::RampThroughZero => {
+            // 100 kW at second 100, then down to -100 in 900 seconds: 0 from 550 to 554
+            (seconds[0][plant].mfrr_target, seconds[0][plant].delivery_end) = (900, 900);
+            (seconds[100][plant].call, seconds[100][plant].mfrr_target, seconds[100][plant].delivery_end) = (1, -100, 1_800);
+            let off = random.within(550, 554) as usize;
+            for record in seconds[off..].iter_mut().map(|second| &mut second[plant]) {
+                record.status &= !4;
+            }
+            seconds[off][plant].status |= FAULT;
+            (25, 555)
+        }
+    };
+    made(format!("broken, {:?} in {}", quarter, PLANTS[plant]), book_blocks(owner, &seconds).concat(), number, at)
 }
 
 /// A sound new call, where there is none yet.
@@ -698,6 +875,6 @@ mod tests {
                 }
             }
         }
-        assert!(late.iter().eq(&[2, 3, 4, 5, 6, 7, 8, 9, 10, 11, 12, 13, 18, 19, 20, 21, 24, 25]), "{:?}", late);
+        assert!(late.iter().eq(&[2, 3, 4, 5, 6, 7, 8, 9, 10, 11, 12, 13, 18, 19, 20, 21, 24, 25, 26]), "{:?}", late);
     }
 }

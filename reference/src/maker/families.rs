@@ -3,7 +3,7 @@
 use super::book_bytes;
 use super::broken;
 use super::random::Random;
-use super::tracks::{seconds, Calls, End, Errors, Mover, Ninth, Switch, Track, Values, EXACT_EDGES};
+use super::tracks::{seconds, Calls, End, Errors, Faults, Mover, Ninth, Switch, Track, Values, EXACT_EDGES};
 use crate::record::Record;
 use std::array;
 
@@ -58,15 +58,18 @@ pub fn make(seed: u64, family: Option<&str>) -> Result<Made, String> {
             array::from_fn(|plant| edge_calls(3 * turn as usize + plant, &mut random)),
             random.within(2_750, 3_700) + if turn % 3 == 0 { 950 } else { 0 },
         ),
-        "edge-fcr" => (array::from_fn(|_| edge_fcr(&mut random)), random.within(100, 600)),
+        "edge-fcr" => {
+            let count = if turn % 2 == 0 { random.within(905, 1_400) } else { random.within(100, 600) };
+            (array::from_fn(|_| edge_fcr(&mut random)), count)
+        }
         "edge-afrr" => (array::from_fn(|_| edge_afrr(&mut random)), random.within(700, 1_500)),
         "edge-ranges" => {
             let count = if turn % 2 == 0 { random.within(1, 9) } else { random.within(900, 2_000) };
             (array::from_fn(|_| edge_ranges(&mut random)), count)
         }
-        "edge-shares" => (array::from_fn(|_| edge_shares(&mut random)), random.within(50, 500)),
-        "edge-switches" => (array::from_fn(|_| edge_switches(&mut random)), random.within(100, 1_500)),
-        "wild" => (array::from_fn(|_| wild(&mut random)), random.within(50, 1_000)),
+        "edge-shares" => (array::from_fn(|_| edge_shares(&mut random)), random.within(50, 1_000)),
+        "edge-switches" => (array::from_fn(|_| edge_switches(&mut random)), random.within(1_900, 4_600)),
+        "wild" => (array::from_fn(|_| wild(&mut random)), random.within(50, 2_000)),
         "broken" => return Ok(broken::make(turn, owner, &mut random)),
         "long" => return Ok(long(seed, 90_000)),
         other => return Err(format!("no family {}", other)),
@@ -209,7 +212,7 @@ const DEVIATIONS: &[i64] = &[
     0, 9, -9, 10, -10, 11, -11, 12, 50, -50, 100, -100, 101, 198, 199, -199, 200, -200, 201, -201, 5_000, -5_000,
 ];
 
-/// Changes of FCR at ages around 15 and 30, and the ends of its formula.
+/// Changes of FCR at ages around 15 and 30, and the ends of its formula; some while FCR is off before a quarter hour.
 fn edge_fcr(random: &mut Random) -> Track {
     Track {
         fcr_held: match random.index(4) {
@@ -225,6 +228,8 @@ fn edge_fcr(random: &mut Random) -> Track {
             _ => Mover::new(Values::Choice(&[0, 50]), &[16, 31, 47]),
         },
         up: Mover::fixed(random.pick(&[0, 100, 500])),
+        switches: [random.pick(&[Switch::On, Switch::Failing]), Switch::On, Switch::On],
+        faults: Faults::BeforeQuarters,
         errors: random.pick(&[Errors::AtBands, Errors::AtBands, Errors::Noise(60)]),
         ..Track::still()
     }
@@ -247,7 +252,8 @@ fn edge_afrr(random: &mut Random) -> Track {
             3 => Mover::new(Values::Walk(2_500, -1_000_000, 1_000_000), &[1, 2, 28]),
             _ => Mover::new(Values::Uniform(-1_000_000, 1_000_000), &[40, 330, 400]),
         },
-        switches: [Switch::On, random.pick(&[Switch::On, Switch::On, Switch::Toggled(&[5, 40])]), Switch::On],
+        switches: [Switch::On, random.pick(&[Switch::On, Switch::Failing, Switch::Sometimes]), Switch::On],
+        faults: random.pick(&[Faults::Anywhere(100), Faults::BeforeQuarters]),
         errors: random.pick(&[Errors::AtBands, Errors::AtBands, Errors::Noise(900)]),
         ..Track::still()
     }
@@ -276,7 +282,6 @@ fn edge_ranges(random: &mut Random) -> Track {
 /// Small tolerances: equal remainders, T = 0, errors of a few kW, some kinds off.
 fn edge_shares(random: &mut Random) -> Track {
     let held = Values::Choice(&[0, 0, 19, 20, 20, 39, 40, 60, 80, 100, 100, 100]);
-    let sometimes = Switch::Toggled(&[3, 10, 40]);
     let mut track = Track {
         fcr_held: Mover::new(held, &[3, 10]),
         deviation: Mover::new(Values::Choice(&[0, 0, 5, 10, 10, 11, 40]), &[20, 50]),
@@ -286,7 +291,8 @@ fn edge_shares(random: &mut Random) -> Track {
         working_point: Mover::new(Values::Uniform(-9, 9), &[1]),
         calls: random.pick(&[Calls::Never, Calls::Every(20, 200), Calls::Every(100, 400)]),
         targets: Values::Choice(&[0, 1, -1, 4, -4, 5, -5, 10, -10]),
-        switches: array::from_fn(|_| random.pick(&[Switch::On, Switch::On, sometimes, Switch::OffAtZero])),
+        switches: array::from_fn(|_| random.pick(&[Switch::On, Switch::On, Switch::Sometimes, Switch::Off])),
+        faults: random.pick(&[Faults::Anywhere(40), Faults::Anywhere(150)]),
         errors: random.pick(&[Errors::Noise(4), Errors::Noise(12), Errors::AtBands]),
         next_call: random.within(0, 60),
         ..Track::still()
@@ -301,10 +307,10 @@ fn edge_shares(random: &mut Random) -> Track {
     track
 }
 
-/// Kinds going on and off at setpoint 0, also while a call runs whose value is 0, and no kind on at all.
+/// Kinds going on and off at quarter hours and off at faults, also while a call runs whose value is 0, and no kind on
+/// at all; bit 3 coming and going. Calls while mFRR is off have value 0 up to the next quarter hour.
 fn edge_switches(random: &mut Random) -> Track {
-    let toggled = Switch::Toggled(&[1, 2, 5, 16, 31, 100]);
-    let one = random.pick(&[toggled, toggled, Switch::OffAtZero]);
+    let kind = [Switch::Sometimes, Switch::Sometimes, Switch::Off];
     Track {
         fcr_held: Mover::new(Values::Choice(&[0, 1, 400, 400, 1_000]), &[50, 100]),
         deviation: Mover::new(Values::Choice(&[0, 0, 10, -10, 11, 100, -150]), &[1, 5, 16, 40]),
@@ -314,7 +320,8 @@ fn edge_switches(random: &mut Random) -> Track {
         working_point: Mover::new(Values::Uniform(-900, 900), &[10]),
         calls: random.pick(&[Calls::Never, Calls::Every(1, 400), Calls::Every(50, 900), Calls::Edges]),
         targets: Values::Choice(&[0, 0, 0, 1, -1, 90, -90, 899, -899, 900, -900, 901]),
-        switches: [one, random.pick(&[toggled, Switch::OffAtZero]), random.pick(&[toggled, Switch::OffAtZero])],
+        switches: array::from_fn(|_| random.pick(&kind)),
+        faults: random.pick(&[Faults::Never, Faults::BitAlone, Faults::BitAlone, Faults::Anywhere(300), Faults::BeforeQuarters]),
         errors: random.pick(&[Errors::Noise(200), Errors::AtBands, Errors::Measured(Values::Uniform(-900, 900))]),
         next_call: random.within(0, 100),
         ..Track::still()
@@ -323,7 +330,6 @@ fn edge_switches(random: &mut Random) -> Track {
 
 /// Everything anywhere in its range.
 fn wild(random: &mut Random) -> Track {
-    let toggled = Switch::Toggled(&[1, 2, 50]);
     Track {
         fcr_held: Mover::new(Values::Uniform(0, 1_000_000), &[1, 30]),
         deviation: Mover::new(random.pick(&[Values::Uniform(-5_000, 5_000), Values::Uniform(-230, 230)]), &[1, 2]),
@@ -333,9 +339,67 @@ fn wild(random: &mut Random) -> Track {
         working_point: Mover::new(Values::Uniform(-4_000_000, 4_000_000), &[1, 10]),
         calls: Calls::Every(1, 300),
         targets: Values::Uniform(-1_000_000, 1_000_000),
-        switches: [toggled; 3],
+        switches: [Switch::Sometimes; 3],
+        faults: random.pick(&[Faults::Anywhere(200), Faults::BitAlone]),
         errors: random.pick(&[Errors::Measured(Values::Uniform(-4_000_000, 4_000_000)), Errors::AtBands]),
         next_call: random.within(0, 100),
         ..Track::still()
+    }
+}
+
+#[cfg(test)]
+mod tests {
+    use super::*;
+    use crate::block::{read_block, read_header, LENGTH};
+    use crate::line::second_line;
+    use crate::plant::{FAULT, KINDS};
+    use crate::program::output_of;
+
+    /// Status by second and plant, from a sound book's bytes.
+    fn statuses(book: &[u8]) -> Vec<[u8; 3]> {
+        let header = read_header(&book[..LENGTH]).expect("a header");
+        let mut statuses = Vec::new();
+        for (k, block) in book[LENGTH..].chunks(LENGTH).enumerate() {
+            let inside = read_block(block, header.seconds, k as u32 + 1).expect("a block");
+            statuses.extend(inside.chunks(108).map(|second| [second[34], second[70], second[106]]));
+        }
+        statuses
+    }
+
+    /// Whole books are accepted, but for storms that ask for a ninth leftover; and among them kinds go on and off at
+    /// quarter hours with and without bit 3, off at faults elsewhere, and bit 3 comes and goes alone.
+    #[test]
+    fn whole_books_are_accepted() {
+        let mut on_at_quarter = [0; 2];
+        let mut off_at_quarter = [0; 2];
+        let (mut off_at_fault, mut fault_alone, mut all, mut fault_only) = (0, 0, 0, 0);
+        for seed in (0..seeds_for_all()).filter(|seed| seed % 3 == 0) {
+            let made = make(seed, None).expect("a family");
+            let output = output_of(&made.bytes, second_line);
+            let last = output.lines().last().expect("a last line");
+            assert!(last.starts_with("sum") || (made.name.contains("ninth") && last.starts_with("refused 10")), "{}", made.name);
+            let statuses = statuses(&made.bytes);
+            for plant in 0..3 {
+                for (now, pair) in statuses.windows(2).enumerate() {
+                    let (before, status) = (pair[0][plant], pair[1][plant]);
+                    let fault = status & FAULT != 0;
+                    let on = status & !before & KINDS != 0;
+                    let off = before & !status & KINDS != 0;
+                    if (now + 1) % 900 == 0 {
+                        on_at_quarter[fault as usize] += on as u32;
+                        off_at_quarter[fault as usize] += off as u32;
+                    } else if made.name.contains("edge") || made.name == "wild" {
+                        assert!(!on && (!off || fault), "{} at {}", made.name, now + 1);
+                        off_at_fault += off as u32;
+                        fault_alone += (!off && (status ^ before) == FAULT) as u32;
+                    }
+                    all += (status == KINDS + FAULT) as u32;
+                    fault_only += (status == FAULT) as u32;
+                }
+            }
+        }
+        let elsewhere = [off_at_fault, fault_alone, all, fault_only];
+        let seen = [&on_at_quarter[..], &off_at_quarter, &elsewhere].concat();
+        assert!(seen.iter().all(|&times| times > 5), "{:?}", seen);
     }
 }

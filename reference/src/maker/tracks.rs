@@ -1,11 +1,13 @@
 //! What a plant does second by second in a made book. Every second made here is accepted, unless a storm is told
-//! to ask for a ninth leftover: kinds with a setpoint are on, calls follow rule 9, powers stay in their ranges.
+//! to ask for a ninth leftover: kinds go on and off at quarter hours, or off at a fault, and those off have setpoint 0;
+//! calls follow rule 9, powers stay in their ranges.
 
 use super::random::Random;
 use super::Second;
 use crate::book::{unit_values, Book};
+use crate::fcr;
 use crate::mfrr::PLACES;
-use crate::plant::{row, tolerances, Accepted, Plant};
+use crate::plant::{row, tolerances, Accepted, Plant, FAULT};
 use crate::power::{Band, Limits};
 use crate::record::Record;
 
@@ -104,12 +106,27 @@ pub enum End {
     LastThenFirst,
 }
 
-/// When a kind whose setpoint is 0 is on; one whose setpoint is not 0 always is.
-#[derive(Clone, Copy)]
+/// Whether a kind is on, from each quarter hour on. mFRR is on wherever its signal would not stay 0 until the next one.
+#[derive(Clone, Copy, PartialEq)]
 pub enum Switch {
     On,
-    OffAtZero,
-    Toggled(&'static [i64]),
+    Off,
+    /// On at every quarter hour; and a fault can take it off.
+    Failing,
+    /// On in some quarter hours; and a fault can take it off.
+    Sometimes,
+}
+
+/// When a fault takes a kind off that can fail. Bit 3 comes and goes alone, too, unless faults never come.
+#[derive(Clone, Copy, PartialEq)]
+pub enum Faults {
+    Never,
+    /// Bit 3 comes and goes, and takes no kind off.
+    BitAlone,
+    /// Once in so many seconds.
+    Anywhere(u64),
+    /// In the last seconds of a quarter hour, so that the kind is soon on again.
+    BeforeQuarters,
 }
 
 /// What the error is.
@@ -134,13 +151,15 @@ pub struct Track {
     pub targets: Values,
     pub ends: End,
     pub switches: [Switch; 3],
+    pub faults: Faults,
     pub errors: Errors,
     /// The first second that a call may come at.
     pub next_call: i64,
     /// Which edge is in turn, for `Calls::Edges`.
     pub edge: usize,
-    pub wanted_on: [bool; 3],
-    pub next_toggle: [i64; 3],
+    pub on: [bool; 3],
+    /// Bit 3.
+    pub fault: bool,
 }
 
 const LARGEST: i64 = 4_000_000;
@@ -163,11 +182,12 @@ impl Track {
             targets: Values::Fixed(0),
             ends: End::Any,
             switches: [Switch::On; 3],
+            faults: Faults::Never,
             errors: Errors::Noise(0),
             next_call: 0,
             edge: 0,
-            wanted_on: [true; 3],
-            next_toggle: [0; 3],
+            on: [true; 3],
+            fault: false,
         }
     }
 
@@ -238,25 +258,72 @@ impl Track {
         }
     }
 
-    fn status(&mut self, now: i64, setpoints: [i64; 3], random: &mut Random) -> u8 {
-        let mut status = 0;
-        for kind in 0..3 {
-            let on = match self.switches[kind] {
-                Switch::On => true,
-                Switch::OffAtZero => false,
-                Switch::Toggled(gaps) => {
-                    if now >= self.next_toggle[kind] {
-                        self.next_toggle[kind] = now + random.pick(gaps);
-                        self.wanted_on[kind] = !self.wanted_on[kind];
-                    }
-                    self.wanted_on[kind]
-                }
-            };
-            if on || setpoints[kind] != 0 {
-                status |= 1 << kind;
+    /// Decides which kinds are on at `now`, and bit 3.
+    fn switch(&mut self, now: i64, plant: &Plant, random: &mut Random) {
+        if self.faults != Faults::Never && random.once_in(40) {
+            self.fault = !self.fault;
+        }
+        if now % 900 == 0 {
+            for kind in 0..3 {
+                self.on[kind] = match self.switches[kind] {
+                    Switch::On | Switch::Failing => true,
+                    Switch::Off => false,
+                    Switch::Sometimes => random.once_in(2),
+                };
+            }
+            self.on[2] |= !plant.mfrr.stays_zero(now, 900);
+            return;
+        }
+        let comes = match self.faults {
+            Faults::Never | Faults::BitAlone => false,
+            Faults::Anywhere(often) => random.once_in(often),
+            Faults::BeforeQuarters => now % 900 >= 880 && random.once_in(5),
+        };
+        let can_fail = |kind: &usize| {
+            self.on[*kind]
+                && matches!(self.switches[*kind], Switch::Failing | Switch::Sometimes)
+                && (*kind != 2 || plant.mfrr.stays_zero(now, 900 - now % 900))
+        };
+        let kinds: Vec<usize> = if comes { (0..3).filter(can_fail).collect() } else { Vec::new() };
+        if !kinds.is_empty() {
+            self.on[random.pick(&kinds)] = false;
+            self.fault = true;
+        }
+    }
+
+    /// Takes the setpoints of FCR and aFRR back to 0 where they are off.
+    fn hold_at_zero(&self, record: &mut Record, random: &mut Random) {
+        if !self.on[0] && fcr::setpoint(record.deviation as i64, record.fcr_held as i64) != 0 {
+            if random.once_in(2) {
+                record.fcr_held = 0;
+            } else {
+                record.deviation = record.deviation.clamp(-9, 9);
             }
         }
-        status
+        if !self.on[1] {
+            record.afrr_setpoint = 0;
+        }
+    }
+
+    /// Gives the record a new call, unless mFRR is off and its signal would not stay 0 until the next quarter hour.
+    fn call(&mut self, record: &mut Record, now: i64, plant: &Plant, random: &mut Random) {
+        let end = self.delivery_end(now, plant, random);
+        let target = self.target(now, plant, random);
+        if !self.on[2] {
+            let called = plant.mfrr.called(now, target, end);
+            if !called.is_ok_and(|signal| signal.stays_zero(now, 900 - now % 900)) {
+                return;
+            }
+        }
+        record.call = 1;
+        record.mfrr_target = target as i32;
+        record.delivery_end = end as u32;
+        self.plan(now, end, random);
+    }
+
+    fn status(&self) -> u8 {
+        let kinds: u8 = (0..3).map(|kind| (self.on[kind] as u8) << kind).sum();
+        kinds + if self.fault { FAULT } else { 0 }
     }
 
     /// The plant's record at its next second, all but the measured value.
@@ -269,19 +336,14 @@ impl Track {
             afrr_held_down: self.down.at(now, random) as i32,
             afrr_setpoint: self.afrr.at(now, random) as i32,
             working_point: self.working_point.at(now, random) as i32,
-            status: 7,
             ..Record::default()
         };
+        self.switch(now, plant, random);
+        self.hold_at_zero(&mut record, random);
         if self.calls_now(now, plant) {
-            let end = self.delivery_end(now, plant, random);
-            record.call = 1;
-            record.mfrr_target = self.target(now, plant, random) as i32;
-            record.delivery_end = end as u32;
-            self.plan(now, end, random);
+            self.call(&mut record, now, plant, random);
         }
-        if let Ok(accepted) = plant.consider(&record.write()) {
-            record.status = self.status(now, accepted.setpoints, random);
-        }
+        record.status = self.status();
         record
     }
 
@@ -347,8 +409,9 @@ impl Track {
 
 /// The limits that an accepted second would have; the plant is as before afterwards.
 fn limits_of(plant: &mut Plant, accepted: Accepted) -> [Limits; 3] {
-    let (carried, signal) = (plant.afrr_limits, plant.mfrr.clone());
+    let (status, carried, signal) = (plant.status, plant.afrr_limits, plant.mfrr.clone());
     let limits = plant.take(accepted);
+    plant.status = status;
     plant.fcr.pop();
     plant.afrr.pop();
     plant.afrr_limits = carried;
