@@ -2,9 +2,11 @@
 use block::Header;
 use book::Book;
 use report::Form;
+use report::Kept;
 use report::Plan;
 use report::TextLine;
 use report::Verdict;
+use tally::Tally;
 ghost use Prim.Native.Nat.{_+_, _≤_};
 ghost use mathlib.Core.Path.{_≡_};
 ghost use mathlib.Core.Bool.{true};
@@ -13,7 +15,7 @@ ghost use Rattle.record.specs.Record.{mostSeconds};
 ghost use Rattle.report.specs.Text.{blockRoom, textOf};
 ghost use Rattle.pieces.specs.Printed.{lastBlock};
 ghost use Rattle.report.specs.Running.{blockIn};
-ghost use Rattle.pieces.specs.Pieces.{start, isDue, bytesDue, withVerdict, headerBy, laterBy, beyondBy, standingIn, lastIn, endOf, StandingReady, Advances};
+ghost use Rattle.pieces.specs.Pieces.{start, isDue, bytesDue, withVerdict, headerBy, laterBy, beyondBy, standingIn, lastLineIn, endOf, StandingReady, Advances};
 ghost use Rattle.block.specs.Header.{headerNumber};
 
 // The seconds of a block.
@@ -24,7 +26,7 @@ const PER_BLOCK: u32 = block::PER_BLOCK as u32;
 pub struct Standing {
     pub plan: Plan,
     pub next: u32,
-    pub book: Book,
+    pub kept: Kept,
     pub verdict: Verdict,
 }
 
@@ -53,7 +55,10 @@ impl Standing {
                 seconds: 0,
             },
             next: 0,
-            book: Book::new(),
+            kept: Kept {
+                book: Book::new(),
+                tally: Tally::new(),
+            },
             verdict: Verdict::Accepted,
         }
     }
@@ -84,12 +89,12 @@ impl Standing {
     fn refused(self, number: u8) -> Standing
         ensures { λ r. ⌜ r ≡ withVerdict self (Verdict.Refused number) ⌝ }
     {
-        let book = self.book;
+        let kept = self.kept;
         let plan = self.plan;
         Standing {
             plan,
             next: self.next,
-            book,
+            kept,
             verdict: Verdict::Refused(number),
         }
     }
@@ -99,7 +104,7 @@ impl Standing {
         requires { ⌜ StandingReady self ⌝ }
         ensures { λ r. ⌜ (r ≡ headerBy (headerNumber (now (bytes .entry))) self (now (bytes .entry)) .standing) × StandingReady r ⌝ }
     {
-        let book = self.book;
+        let kept = self.kept;
         let verdict = self.verdict;
         let plan = self.plan;
         let form = plan.form;
@@ -112,7 +117,7 @@ impl Standing {
                     seconds,
                 },
                 next: 1,
-                book,
+                kept,
                 verdict,
             },
         }
@@ -121,17 +126,17 @@ impl Standing {
     // A later block: its seconds are run, or it is refused.
     fn later(self, used: usize, bytes: &[u8], out: &mut [u8]) -> Advance
         requires { ⌜ StandingReady self × (used + blockRoom ≤ length (now out)) × (self .next ≤ mostSeconds) ⌝ }
-        ensures { λ r. ⌜ Advances blockRoom (now (out .entry)) (now (out .exit)) used r (laterBy (blockIn (self .plan) (self .next) (self .book) (now (bytes .entry))) self) ⌝ }
+        ensures { λ r. ⌜ Advances blockRoom (now (out .entry)) (now (out .exit)) used r (laterBy (blockIn (self .plan) (self .next) (self .kept) (now (bytes .entry))) self) ⌝ }
     {
         let plan = self.plan;
-        let run = report::run_block(self.book, used, plan, self.next, bytes, out);
-        let book = run.book;
+        let run = report::run_block(self.kept, used, plan, self.next, bytes, out);
+        let kept = run.kept;
         let verdict = run.verdict;
         Advance {
             standing: Standing {
                 plan,
                 next: self.next + 1,
-                book,
+                kept,
                 verdict,
             },
             used: run.used,
@@ -187,9 +192,10 @@ impl Standing {
     // The sum line, or the refusal.
     pub(crate) fn last_line(self) -> TextLine
         requires { ⌜ StandingReady self ⌝ }
-        ensures { λ r. ⌜ textOf r ≡ lastIn self ⌝ }
+        ensures { λ r. ⌜ textOf r ≡ lastLineIn self ⌝ }
     {
-        let book = self.book;
+        let kept = self.kept;
+        let book = kept.book;
         let sums = book.sums;
         match self.end() {
             Verdict::Accepted => TextLine::Sums(sums),
