@@ -1,0 +1,73 @@
+-- `stdio::one_turn` meets its contract: what is read leaves the buffer as long as it was. Assumes nothing.
+use borrow.Author.Needs.{needs}
+use Rattle.stdio.proofs.one_turn.Statement.{statement}
+use Rattle.stdio.proofs.one_turn.Tie as tie
+
+wanted-requires : tie.Need-wanted-requires
+wanted-requires c κs = search needs
+
+returns : tie.Need-returns
+returns c = search needs
+
+receive-requires : tie.Need-receive-requires
+receive-requires c κs = search needs
+
+slice-aggregate-say : tie.Need-slice-aggregate-say
+slice-aggregate-say c = search needs
+
+say-requires : tie.Need-say-requires
+say-requires c κs = search needs
+
+same-length : tie.Need-same-length
+same-length c = search needs
+
+returns-2 : tie.Need-returns-2
+returns-2 c = search needs
+
+count-requires : tie.Need-count-requires
+count-requires c κs = search needs
+
+same-length-2 : tie.Need-same-length-2
+same-length-2 c = search needs
+
+returns-3 : tie.Need-returns-3
+returns-3 c = search needs
+
+slice-reshare-prefix-pass-on : tie.Need-slice-reshare-prefix-pass-on
+slice-reshare-prefix-pass-on c = search needs
+
+slice-aggregate-pass-on : tie.Need-slice-aggregate-pass-on
+slice-aggregate-pass-on c = search needs
+
+pass-on-requires : tie.Need-pass-on-requires
+pass-on-requires c κs = search needs
+
+same-length-3 : tie.Need-same-length-3
+same-length-3 c = let p = c .before .before .before .before .before .before .before .before .before .before in search needs
+
+same-length-4 : tie.Need-same-length-4
+same-length-4 c = search needs
+
+returns-4 : tie.Need-returns-4
+returns-4 c = search needs
+
+pub one-turn-spec : {M : Type 1} → statement M
+one-turn-spec =
+    tie.close
+    (tie.spec
+    wanted-requires
+    returns
+    receive-requires
+    slice-aggregate-say
+    say-requires
+    same-length
+    returns-2
+    count-requires
+    same-length-2
+    returns-3
+    slice-reshare-prefix-pass-on
+    slice-aggregate-pass-on
+    pass-on-requires
+    same-length-3
+    same-length-4
+    returns-4)
