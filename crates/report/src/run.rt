@@ -71,15 +71,14 @@ fn run_second(kept: Kept, used: usize, plan: Plan, bytes: &[u8], out: &mut [u8])
     ensures { λ r. ⌜ Adds secondRoom (now (out .entry)) (now (out .exit)) used r (secondIn plan kept (now (bytes .entry))) ⌝ }
 {
     let form = plan.form;
-    let book = kept.book;
     let tally = kept.tally;
-    let step = book.second(plan.owner, bytes);
+    let step = kept.book.second(plan.owner, bytes);
     let next = step.book;
     let answer = step.answer;
     match answer {
         BookAnswer::Rows { unit, a, b } => accepted(
             keep(next, tally.with_second(unit, a, b)),
-            add_second(out, used, form, book.unit.seconds, unit, a, b),
+            add_second(out, used, form, kept.book.unit.seconds, unit, a, b),
         ),
         BookAnswer::Refused(number) => refused(keep(next, tally), used, number),
         BookAnswer::RefusedBy { plant: _, number } => refused(keep(next, tally), used, number),

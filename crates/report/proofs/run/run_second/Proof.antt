@@ -12,13 +12,13 @@ enum-known-answer : tie.Need-enum-known-answer
 enum-known-answer c = search needs
 
 with-second-requires : tie.Need-with-second-requires
-with-second-requires c κs = let start = c .before .before .before .before .before .before .before .before .before in has-room (start .args .kept) (start .pre .0)
+with-second-requires c κs = let start = c .before .before .before .before .before .before .before .before in has-room (start .args .kept) (start .pre .0)
 
 keep-requires : tie.Need-keep-requires
 keep-requires c κs = search needs
 
 add-second-requires : tie.Need-add-second-requires
-add-second-requires c κs = c .before .before .before .before .before .before .before .before .before .before .before .before .pre .1
+add-second-requires c κs = c .before .before .before .before .before .before .before .before .before .before .before .pre .1
 
 accepted-requires : tie.Need-accepted-requires
 accepted-requires c κs = search needs
@@ -46,19 +46,19 @@ same-length c = search needs
 
 returns : tie.Need-returns
 returns c =
-    let start = c .before .before .before .before .before .before .before .before .before .before .before .before .before .before .before .before in
+    let start = c .before .before .before .before .before .before .before .before .before .before .before .before .before .before .before in
     rw (c .accepted .ensures, c .before .before .before .before .before .keep .ensures)
     (taken (start .args .plan) (start .pre .0) (c .before .before .before .before .before .before .before .before .before .before .before .second .ensures) (c .before .before .before .before .before .before .before .before .answer .given .1) (c .before .before .before .before .before .before .with-second .ensures) (c .before .before .before .add-second .ensures))
 
 returns-2 : tie.Need-returns-2
 returns-2 c =
-    let start = c .before .before .before .before .before .before .before .before .before .before .before in
+    let start = c .before .before .before .before .before .before .before .before .before .before in
     rw (c .refused .ensures, c .before .keep2 .ensures)
     (turned-down (start .args .plan) (start .pre .0) (c .before .before .before .before .before .before .second .ensures) (rw (c .before .before .before .answer2 .given .1)) (omega (arith, start .pre .1)))
 
 returns-3 : tie.Need-returns-3
 returns-3 c =
-    let start = c .before .before .before .before .before .before .before .before .before .before .before in
+    let start = c .before .before .before .before .before .before .before .before .before .before in
     rw (c .refused2 .ensures, c .before .keep3 .ensures)
     (turned-down (start .args .plan) (start .pre .0) (c .before .before .before .before .before .before .second .ensures) (rw (c .before .before .before .answer3 .given .1)) (omega (arith, start .pre .1)))
 
