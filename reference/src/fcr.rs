@@ -2,9 +2,10 @@
 
 use crate::power::{five_percent, setpoint_at, Limits, GRAINS};
 
-/// "0 for |f| up to 10; -P for f at least 200; P for f at most -200; else -f × P / 200, cut toward zero."
+/// 0 in the zero zone, which document 02 (W4) makes "|f| up to 9"; "-P for f at least 200; P for f at most -200; else
+/// -f × P / 200, cut toward zero."
 pub fn setpoint(deviation: i64, held: i64) -> i64 {
-    if deviation.abs() <= 10 {
+    if deviation.abs() <= 9 {
         0
     } else if deviation >= 200 {
         -held

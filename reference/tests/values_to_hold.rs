@@ -1,4 +1,4 @@
-//! Every value of document 01's "Values to hold", and the full case.
+//! Every value of document 01's "Values to hold", as document 02 changes them, and the full case.
 
 mod full_case;
 
@@ -40,8 +40,10 @@ fn the_full_case_row_by_row() {
 
 #[test]
 fn fcr_setpoints() {
-    assert_eq!(fcr::setpoint(10, 400), 0);
-    assert_eq!(fcr::setpoint(-10, 400), 0);
+    assert_eq!(fcr::setpoint(9, 400), 0);
+    assert_eq!(fcr::setpoint(-9, 400), 0);
+    assert_eq!(fcr::setpoint(10, 400), -20);
+    assert_eq!(fcr::setpoint(-10, 400), 20);
     assert_eq!(fcr::setpoint(11, 400), -22);
     assert_eq!(fcr::setpoint(199, 400), -398);
     assert_eq!(fcr::setpoint(200, 400), -400);

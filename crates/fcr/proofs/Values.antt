@@ -10,7 +10,9 @@ pub marked : Marked
 unfolding setpointOf weight fallen fallOf sumTo limitsAt upperKw maxZ
 marked =
     record {
+      held-400-at-9 = refl;
       held-400-at-10 = refl;
+      held-400-at-minus-10 = refl;
       held-400-at-11 = refl;
       held-400-at-199 = refl;
       held-400-at-200 = refl;
@@ -24,7 +26,7 @@ unfolding setpointOf weight fallen fallOf sumTo limitsAt upperKw maxZ
 values =
     record {
       marked = marked;
-      held-400-at-minus-10 = refl;
+      held-400-at-minus-9 = refl;
       held-400-at-minus-11 = refl;
       held-400-at-201 = refl;
       held-400-at-minus-201 = refl;

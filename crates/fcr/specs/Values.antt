@@ -23,8 +23,11 @@ fallTolerance a = fallBy 100 (pos 400) a
 
 -- those that document 01 marks with *
 pub record Marked : Type 0 where
-  -- "FCR, held 400: 10 gives 0*, 11 gives -22*, 199 gives -398*, 200 gives -400*. Held 333, deviation -50: 83*."
-  pub held-400-at-10 : setpointOf (pos 400) (pos 10) ≡ pos 0
+  -- "held 400 at 10 gives -20 and at -10 gives 20 .. held 400 at 9 gives 0" (02, W4, in place of 01's 0* at 10)
+  pub held-400-at-9 : setpointOf (pos 400) (pos 9) ≡ pos 0
+  pub held-400-at-10 : setpointOf (pos 400) (pos 10) ≡ negℤ (pos 20)
+  pub held-400-at-minus-10 : setpointOf (pos 400) (negℤ (pos 10)) ≡ pos 20
+  -- "FCR, held 400: .. 11 gives -22*, 199 gives -398*, 200 gives -400*. Held 333, deviation -50: 83*."
   pub held-400-at-11 : setpointOf (pos 400) (pos 11) ≡ negℤ (pos 22)
   pub held-400-at-199 : setpointOf (pos 400) (pos 199) ≡ negℤ (pos 398)
   pub held-400-at-200 : setpointOf (pos 400) (pos 200) ≡ negℤ (pos 400)
@@ -36,7 +39,7 @@ pub record Marked : Type 0 where
 pub record Values : Type 0 where
   pub marked : Marked
   -- the other side of the dead band, of full activation and of the cut toward zero
-  pub held-400-at-minus-10 : setpointOf (pos 400) (negℤ (pos 10)) ≡ pos 0
+  pub held-400-at-minus-9 : setpointOf (pos 400) (negℤ (pos 9)) ≡ pos 0
   pub held-400-at-minus-11 : setpointOf (pos 400) (negℤ (pos 11)) ≡ pos 22
   pub held-400-at-201 : setpointOf (pos 400) (pos 201) ≡ negℤ (pos 400)
   pub held-400-at-minus-201 : setpointOf (pos 400) (negℤ (pos 201)) ≡ pos 400

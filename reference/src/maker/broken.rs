@@ -456,8 +456,8 @@ fn spoil(record: &mut Record, number: u8, way: usize, now: usize, random: &mut R
         }
         10 => call(record, now, random),
         11 => {
-            record.fcr_held = random.pick(&[2, 400, 1_000_000]);
-            record.deviation = random.pick(&[100, -100, 200, -5_000]);
+            let pairs = [(2, 100), (2, -100), (400, 200), (20, 10), (20, -10), (1_000_000, -5_000)];
+            (record.fcr_held, record.deviation) = random.pick(&pairs);
             go_off(record, 1, now);
         }
         24 => {

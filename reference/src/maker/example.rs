@@ -27,7 +27,7 @@ fn moved(value: i64, step: i64, lowest: i64, highest: i64, random: &mut Random) 
 pub fn short_example() -> Vec<Second> {
     let mut random = Random::new(14);
     let mut seconds = Vec::new();
-    // steps of 3 mHz up to 39: what counts as 0 at exactly 10 mHz does not matter to this book
+    // steps of 3 mHz up to 39: whether exactly 10 mHz counts as a call does not matter to this book
     let mut deviation = 0;
     let (mut unit_afrr, mut own_afrr) = (2_000, 3_000);
     for now in 0..SECONDS {

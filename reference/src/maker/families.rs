@@ -209,7 +209,7 @@ fn edge_calls(turn: usize, random: &mut Random) -> Track {
 }
 
 const DEVIATIONS: &[i64] = &[
-    0, 9, -9, 10, -10, 11, -11, 12, 50, -50, 100, -100, 101, 198, 199, -199, 200, -200, 201, -201, 5_000, -5_000,
+    0, 8, 9, -9, 10, -10, 11, -11, 50, -50, 100, -100, 101, 198, 199, -199, 200, -200, 201, -201, 5_000, -5_000,
 ];
 
 /// Changes of FCR at ages around 15 and 30, and the ends of its formula; some while FCR is off before a quarter hour.
@@ -266,7 +266,7 @@ fn edge_ranges(random: &mut Random) -> Track {
     let held = Values::Choice(&[0, 1, 999_999, 1_000_000, 1_000_000]);
     Track {
         fcr_held: Mover::new(held, &[1, 60]),
-        deviation: Mover::new(Values::Choice(&[-5_000, -4_999, -200, -199, -11, -10, 0, 10, 11, 199, 200, 5_000]), &[1, 4]),
+        deviation: Mover::new(Values::Choice(&[-5_000, -4_999, -200, -199, -10, -9, 0, 9, 10, 199, 200, 5_000]), &[1, 4]),
         up: Mover::new(held, &[1, 60]),
         down: Mover::new(held, &[1, 60]),
         afrr: Mover::new(Values::Choice(&[-1_000_000, -999_999, 0, 999_999, 1_000_000]), &[1, 30, 200]),
@@ -284,7 +284,7 @@ fn edge_shares(random: &mut Random) -> Track {
     let held = Values::Choice(&[0, 0, 19, 20, 20, 39, 40, 60, 80, 100, 100, 100]);
     let mut track = Track {
         fcr_held: Mover::new(held, &[3, 10]),
-        deviation: Mover::new(Values::Choice(&[0, 0, 5, 10, 10, 11, 40]), &[20, 50]),
+        deviation: Mover::new(Values::Choice(&[0, 0, 5, 9, 9, 10, 40]), &[20, 50]),
         up: Mover::new(held, &[3, 10]),
         down: Mover::new(held, &[3, 10]),
         afrr: Mover::new(Values::Choice(&[0, 0, 0, 1, -1, 2]), &[35, 90]),
@@ -313,7 +313,7 @@ fn edge_switches(random: &mut Random) -> Track {
     let kind = [Switch::Sometimes, Switch::Sometimes, Switch::Off];
     Track {
         fcr_held: Mover::new(Values::Choice(&[0, 1, 400, 400, 1_000]), &[50, 100]),
-        deviation: Mover::new(Values::Choice(&[0, 0, 10, -10, 11, 100, -150]), &[1, 5, 16, 40]),
+        deviation: Mover::new(Values::Choice(&[0, 0, 9, -9, 10, 100, -150]), &[1, 5, 16, 40]),
         up: Mover::new(Values::Choice(&[0, 500, 1_000]), &[50, 100]),
         down: Mover::new(Values::Choice(&[0, 500, 1_000]), &[50, 100]),
         afrr: Mover::new(Values::Choice(&[0, 0, 0, 500, -500, 8_000]), &[1, 10, 31, 60]),
