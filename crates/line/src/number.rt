@@ -2,7 +2,8 @@
 use power::Kw;
 use row::KwSeconds;
 ghost use mathlib.Core.Path.{_≡_};
-ghost use Prim.Native.Nat.{_+_, _≤_, _<_};
+ghost use Prim.Native.Nat.{_+_, _/_, _%_, _≤_, _<_};
+ghost use mathlib.Core.List.{[], _∷_};
 ghost use lib.IntN.{natAbs, pos};
 ghost use lib.Signed.{ltZ};
 ghost use lib.ListN.{length};
@@ -20,7 +21,16 @@ fn glyph(d: u64) -> u8
     b'0' + d as u8
 }
 
-// The last digit after those before it.
+// Both digits of a number below 100.
+fn put_pair(buf: &mut [u8], at: usize, n: u64) -> usize
+    requires { ⌜ (n < 100) × (at + 2 ≤ length (now buf)) ⌝ }
+    ensures { λ r. ⌜ Put 2 (now (buf .entry)) (now (buf .exit)) at r (digit (n / 10) ∷ digit (n % 10) ∷ []) ⌝ }
+{
+    let to = codec::put_byte(buf, at, glyph(n / 10));
+    codec::put_byte(buf, to, glyph(n % 10))
+}
+
+// The last two digits after those before them: two at a time, since that takes half the calls.
 fn put_digits(buf: &mut [u8], at: usize, n: u64) -> usize
     requires { ⌜ at + length (digits n) ≤ length (now buf) ⌝ }
     ensures { λ r. ⌜ Put (length (digits n)) (now (buf .entry)) (now (buf .exit)) at r (digits n) ⌝ }
@@ -28,8 +38,11 @@ fn put_digits(buf: &mut [u8], at: usize, n: u64) -> usize
     if n < 10 {
         return codec::put_byte(buf, at, glyph(n));
     }
-    let to = put_digits(buf, at, n / 10);
-    codec::put_byte(buf, to, glyph(n % 10))
+    if n < 100 {
+        return put_pair(buf, at, n);
+    }
+    let to = put_digits(buf, at, n / 100);
+    put_pair(buf, to, n % 100)
 }
 
 // A refusal number, or a number of seconds.

@@ -44,10 +44,10 @@ unfoldable pub stateOf : History → PlantState
 stateOf h =
     record {
       seconds = length h;
-      «last_status» = lastStatus h;
       fcr = fcr.stateOf (fcrPast h);
       afrr = afrr.stateOf (afrrPast h);
       mfrr = mfrr.stateOf (mfrrPast h);
+      «last_status» = lastStatus h;
     }
 
 -- the step r of a second of bytes s after the accepted seconds h: its answer is the one over them, and its state the one that they and, unless
@@ -95,7 +95,7 @@ kindsIn st x s b = kindsWith x (setpointsWith x s) (fcrStepIn st x .band) (afrrS
 
 -- the state after an accepted second of status n, by the kinds' states after it
 abbrev pub nextWith : PlantState → ℕ → FcrState → AfrrState → MfrrState → PlantState
-nextWith st n fcr afrr mfrr = record { seconds = st .seconds + 1; «last_status» = n; fcr = fcr; afrr = afrr; mfrr = mfrr }
+nextWith st n fcr afrr mfrr = record { seconds = st .seconds + 1; fcr = fcr; afrr = afrr; mfrr = mfrr; «last_status» = n }
 
 -- after record x, where mFRR's is `next`: the carried limits run on, whether a kind is on or off
 unfoldable pub grownIn : PlantState → Record → MfrrState → PlantState
@@ -176,6 +176,11 @@ pub record Given (x : Record) (m w : ℤ) (q : Row) : Type 0 where
 pub record StepFacts (x : Record) (m w : ℤ) (r : PlantStep) : Type 0 where
   pub ready : Ready (r .state)
   pub given : {q : Row} → r .answer ≡ answer.Row q → Given x m w q
+
+-- from 8 on, where none of 1 to 7 and 26 applies to the record x
+pub record CallStepped (st : PlantState) (x : Record) (m w : ℤ) (r : PlantStep) : Type 0 where
+  pub is : r ≡ callStepIn st x m w
+  pub facts : StepFacts x m w r
 
 -- the plant second's contract, for every state that it may be given
 pub record Stepped (st : PlantState) (s : List ℕ) (m w : ℤ) (r : PlantStep) : Type 0 where
