@@ -18,6 +18,9 @@ use Rattle.line.specs.Line.{plantText, secondText, sumText, refusalText,
 use Rattle.row.specs.Fits.{Kind32, Row32, Sums64}
 use Rattle.line.specs.Claims.{Lengths, Examples}
 use Rattle.line.proofs.Digits.{digits-by}
+use Rattle.row.specs.Side.{sideOf}
+use Rattle.line.specs.Short.{outsideText, shortText, sideCountText, kindCountsText}
+use Rattle.line.proofs.Short.{short-most, counts-most}
 use Rattle.line.proofs.Lengths.{count-most, decimal-64, field-most}
 
 plant-most : (l : ℕ) (x : Row) → Row32 x → length (plantText l x) ≤ plantWidth
@@ -79,16 +82,18 @@ row-most t letter x h f =
     simp length-append (omega arith)
 
 pub lengths : Lengths
-lengths = record { second = second-most; sums = sum-most; refusal = refusal-most; row = row-most }
+lengths = record { second = second-most; sums = sum-most; refusal = refusal-most; row = row-most; short = short-most; counts = counts-most }
 
 pub examples : Examples
-unfolding secondText plantText sumText named refusalText rowText kindText field decimal digits digitsIn
+unfolding secondText plantText sumText named refusalText rowText kindText shortText outsideText sideOf kindCountsText sideCountText field decimal digits digitsIn
 examples =
     record {
       full-second = refl;
       full-sum = refl;
       refused = refl;
       every-figure = refl;
+      short = refl;
+      counts = refl;
       least-32 = ap (λ (l : List ℕ). ascii "-" ++ l) (digits-by 9 2147483648 (lit< tt));
       least-64 = ap (λ (l : List ℕ). ascii "-" ++ l) (digits-by 18 9223372036854775808 (lit< tt));
     }

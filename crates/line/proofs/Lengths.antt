@@ -13,6 +13,9 @@ use Rattle.line.proofs.Digits.{digits-most}
 pub count-most : (n : ℕ) → n < 2 ^ 32 → length (digits n) ≤ countWidth
 count-most n h = digits-most 9 n (omega arith)
 
+pub amount-most : (n : ℕ) → n < 2 ^ 64 → length (digits n) ≤ sumWidth
+amount-most n h = digits-most 19 n (omega arith)
+
 -- a magnitude below 10 ^ k, and a sign
 decimal-most : (k : ℕ) (z : ℤ) → natAbs z < 10 ^ suc k → length (decimal z) ≤ suc (suc k)
 unfolding decimal

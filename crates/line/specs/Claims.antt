@@ -1,5 +1,8 @@
--- What holds of every line, and document 01's example. The proofs are `lengths` and `examples` of proofs/Claims.antt.
+-- What holds of every line, and document 01's example. The proofs are `lengths` and `examples` of proofs/Claims.antt, and `silent` of
+-- proofs/Short.antt.
 use mathlib.Core.Path.{_≡_}
+use mathlib.Core.Logic.{_↔_}
+use mathlib.Core.List.{[]}
 use Prim.Native.Nat.{ℕ, _^_, _≤_, _<_}
 use Prim.Native.Char.{code}
 use lib.ListN.{length}
@@ -8,10 +11,29 @@ use Rattle.power.specs.Units.{kw}
 use Rattle.row.specs.declared.KindRow.{KindRow}
 use Rattle.row.specs.declared.Row.{Row}
 use Rattle.row.specs.declared.sums.Sums.{Sums}
+use Rattle.row.specs.declared.side.SideCount.{SideCount}
+use Rattle.row.specs.declared.side.KindCounts.{KindCounts}
+use Rattle.row.specs.declared.side.PlantCounts.{PlantCounts}
+use Rattle.row.specs.Row.{kindsOf, AllInBand}
 use Rattle.row.specs.Fits.{Row32, Sums64}
 use Rattle.line.specs.Text.{ascii, decimal}
 use Rattle.line.specs.Widths.{lineRoom, rowRoom}
 use Rattle.line.specs.Line.{secondText, sumText, refusalText, rowText}
+use Rattle.line.specs.Short.{shortText, kindCountsText, countsText}
+
+-- the seconds of a count are an unsigned 32-bit number, its kW-seconds a 64-bit one
+pub record Side64 (c : SideCount) : Type 0 where
+  pub seconds : c .seconds < 2 ^ 32
+  pub kw-seconds : c .«kw_seconds» < 2 ^ 64
+
+pub record KindSides64 (c : KindCounts) : Type 0 where
+  pub below : Side64 (c .below)
+  pub above : Side64 (c .above)
+
+pub record Counts64 (c : PlantCounts) : Type 0 where
+  pub fcr : KindSides64 (c .fcr)
+  pub afrr : KindSides64 (c .afrr)
+  pub mfrr : KindSides64 (c .mfrr)
 
 -- "A row's figures are signed 32-bit numbers and the four sums 64-bit ones, so 200 bytes always suffice", and 256 for the line with every figure.
 -- That rows and sums are so is shown of every list (`RowsHold`, `Balanced` of book/specs/Claims.antt).
@@ -20,6 +42,13 @@ pub record Lengths : Type 0 where
   pub sums : (s : Sums) → Sums64 s → length (sumText s) ≤ lineRoom
   pub refusal : (n t : ℕ) → n < 2 ^ 32 → t < 2 ^ 32 → length (refusalText n t) ≤ lineRoom
   pub row : (t letter : ℕ) (x : Row) → t < 2 ^ 32 → Row32 x → length (rowText t letter x) ≤ rowRoom
+  -- and for a plant's lines of kinds outside their bands, and of counts
+  pub short : (t letter : ℕ) (x : Row) → t < 2 ^ 32 → Row32 x → length (shortText t letter x) ≤ rowRoom
+  pub counts : (letter : ℕ) (c : PlantCounts) → Counts64 c → length (countsText letter c) ≤ rowRoom
+
+-- a plant has no line in a second exactly when all its kinds lie within their bands
+pub record Silent : Type 0 where
+  pub silent : (t letter : ℕ) (x : Row) → (shortText t letter x ≡ []) ↔ AllInBand (kindsOf x)
 
 abbrev pub kind : ℤ → ℤ → ℤ → ℤ → ℤ → KindRow
 kind setpoint low high share actual = record { setpoint = kw setpoint; band = record { low = kw low; high = kw high }; share = kw share; actual = kw actual }
@@ -37,5 +66,7 @@ pub record Examples : Type 0 where
   pub full-sum : sumText (sums (negsuc 78) (pos 30) (pos 0) (negsuc 48)) ≡ ascii "sum A -79 B 30 open 0 due -49\n"
   pub refused : refusalText 12 89999 ≡ ascii "refused 12 at 89999\n"
   pub every-figure : rowText 7 (code "U") (record { fcr = kind (pos 1) (pos 2) (pos 3) (pos 4) (pos 5); afrr = kind (pos 6) (pos 7) (pos 8) (pos 9) (pos 10); mfrr = kind (pos 11) (pos 12) (pos 13) (pos 14) (pos 15); «open» = kw (negsuc 15) }) ≡ ascii "7 U 1 2 3 4 5 6 7 8 9 10 11 12 13 14 15 -16\n"
+  pub short : shortText 1020 (code "U") (record { fcr = kind (pos 0) (pos 0) (pos 7) (pos 0) (pos 7); afrr = kind (pos 0) (negsuc 4) (pos 5) (pos 0) (negsuc 11); mfrr = kind (pos 0) (pos 0) (pos 0) (pos 0) (pos 1); «open» = kw (pos 0) }) ≡ ascii "1020 U aFRR below 7\n1020 U mFRR above 1\n"
+  pub counts : kindCountsText (code "U") (ascii " aFRR") (record { below = record { seconds = 300; «kw_seconds» = 153600 }; above = record { seconds = 0; «kw_seconds» = 0 } }) ≡ ascii "U aFRR below 300 153600 above 0 0\n"
   pub least-32 : decimal (negsuc 2147483647) ≡ ascii "-2147483648"
   pub least-64 : decimal (negsuc 9223372036854775807) ≡ ascii "-9223372036854775808"

@@ -1,5 +1,6 @@
 pub mod Text
 pub mod Widths
 pub mod Line
+pub mod Short
 pub mod Lined
 pub mod Claims

@@ -17,7 +17,7 @@ countWidth = 10
 abbrev pub fieldWidth : ℕ
 fieldWidth = 12
 
--- a signed 64-bit number
+-- a 64-bit number, signed or not
 abbrev pub sumWidth : ℕ
 sumWidth = 20
 
@@ -28,3 +28,22 @@ plantWidth = 2 + 4 * fieldWidth
 -- the five figures of a kind
 abbrev pub kindWidth : ℕ
 kindWidth = 5 * fieldWidth
+
+-- a kind's name and a side's, with their spaces
+abbrev pub nameWidth : ℕ
+nameWidth = 5
+
+abbrev pub sideWidth : ℕ
+sideWidth = 7
+
+-- the line of a kind outside its band
+abbrev pub outsideWidth : ℕ
+outsideWidth = countWidth + 2 + nameWidth + sideWidth + countWidth + 1
+
+-- seconds and kW-seconds of a side
+abbrev pub sideCountWidth : ℕ
+sideCountWidth = sideWidth + countWidth + 1 + sumWidth
+
+-- the line of a kind's counts
+abbrev pub countsWidth : ℕ
+countsWidth = 1 + nameWidth + 2 * sideCountWidth + 1

@@ -3,6 +3,7 @@
 mod book_lines;
 mod number;
 mod row_lines;
+mod short_lines;
 
 ghost use mathlib.Core.Path.{_≡_};
 ghost use Rattle.line.specs.Lined.{lengthIn};
@@ -11,6 +12,8 @@ pub use book_lines::second_line;
 pub use book_lines::sum_line;
 pub use row_lines::ROW_ROOM;
 pub use row_lines::plant_line;
+pub use short_lines::plant_counts;
+pub use short_lines::plant_short;
 
 // The refusal of a buffer with too little room.
 const TOO_SMALL: u8 = 22;

@@ -53,6 +53,14 @@ pub(crate) fn put_count(buf: &mut [u8], at: usize, n: u32) -> usize
     put_digits(buf, at, n as u64)
 }
 
+// A number of kW-seconds that has no sign.
+pub(crate) fn put_amount(buf: &mut [u8], at: usize, n: u64) -> usize
+    requires { ⌜ at + sumWidth ≤ length (now buf) ⌝ }
+    ensures { λ r. ⌜ Put sumWidth (now (buf .entry)) (now (buf .exit)) at r (digits n) ⌝ }
+{
+    put_digits(buf, at, n)
+}
+
 fn is_negative(v: Number) -> bool
     ensures { λ r. ⌜ r ≡ ltZ (v .0) (pos 0) ⌝ }
 {

@@ -13,15 +13,18 @@ use Rattle.report.specs.declared.run.Verdict.{Verdict}
 use Rattle.report.specs.declared.run.Verdict.the-variants.{Accepted, Refused}
 use Rattle.pieces.specs.declared.standing.Standing.{Standing}
 use Rattle.report.specs.Running.{blockIn}
-use Rattle.pieces.specs.Pieces.{unmoved, withVerdict, headerBy, laterBy, beyondBy, isDue, standingIn, byteIn, onward, bytesIn}
+use Rattle.pieces.specs.Pieces.{Went, unmoved, keptBy, withVerdict, headerBy, laterBy, beyondBy, isDue, standingIn, byteIn, onward, bytesIn}
 
 -- ---- cut in two
+
+-- one byte more in front, where w is what it gives
+cut-more : (w : Went) (xs ys : List ℕ) → bytesIn (w .standing) (w .part) (xs ++ ys) ≡ onward (bytesIn (w .standing) (w .part) xs .text) (bytesIn (bytesIn (w .standing) (w .part) xs .standing) (bytesIn (w .standing) (w .part) xs .part) ys) → onward (w .text) (bytesIn (w .standing) (w .part) (xs ++ ys)) ≡ onward (w .text ++ bytesIn (w .standing) (w .part) xs .text) (bytesIn (bytesIn (w .standing) (w .part) xs .standing) (bytesIn (w .standing) (w .part) xs .part) ys)
+cut-more w xs ys e = rw e (rw append-assoc)
 
 pub cut : (st : Standing) (p xs ys : List ℕ) → bytesIn st p (xs ++ ys) ≡ onward (bytesIn st p xs .text) (bytesIn (bytesIn st p xs .standing) (bytesIn st p xs .part) ys)
 unfolding bytesIn
 cut st p [] ys = refl
-cut st p (b ∷ xs) ys =
-    rw (cut (byteIn st p b .standing) (byteIn st p b .part) xs ys) (rw append-assoc)
+cut st p (b ∷ xs) ys = cut-more (byteIn st p b) xs ys (cut (byteIn st p b .standing) (byteIn st p b .part) xs ys)
 
 -- ---- no bytes are left over from a block
 
@@ -38,7 +41,7 @@ none-left st s = go (isDue st) (eqb (st .next) 0) (headerNumber s) (st .verdict)
     beyond-part Accepted [] = refl
     beyond-part Accepted (b ∷ l) = refl
 
-    go : (d z : Bool) (n : ℕ) (v : Verdict) → cond d (cond z (headerBy n st s) (laterBy (blockIn (st .plan) (st .next) (st .book) s) st)) (beyondBy v st s) .part ≡ []
+    go : (d z : Bool) (n : ℕ) (v : Verdict) → cond d (cond z (headerBy n st s) (laterBy (blockIn (st .plan) (st .next) (keptBy st) s) st)) (beyondBy v st s) .part ≡ []
     go true true n v = header-part n
     go true false n v = refl
     go false z n v = beyond-part v s

@@ -19,7 +19,7 @@ use Rattle.report.specs.declared.Form.{Form}
 use Rattle.report.specs.declared.run.Verdict.{Verdict}
 use Rattle.report.specs.declared.run.Verdict.the-variants as verdict
 use Rattle.pieces.specs.declared.standing.Standing.{Standing}
-use Rattle.pieces.specs.Printed.{judged, judgedIn, numberIn, printed}
+use Rattle.pieces.specs.Printed.{judged, judgedIn, numberIn, endText, printed}
 use Rattle.pieces.specs.Pieces.{start, isDue, bytesDue, wantedBy, wantedIn, byteBy, byteIn, bytesIn, lastIn}
 use Rattle.pieces.specs.Claims.{told, joined, secondsHeld, SumLine, Claims}
 use Rattle.pieces.proofs.Bytes.{cut, none-left, refused-not-due, beyond}
@@ -75,7 +75,7 @@ enough f s more e =
 -- ---- the sum line
 
 sum-line : (f : Form) (s : List ℕ) → headerNumber (take blockSize s) ≡ 0 → numberIn f (ownerOf (take blockSize s)) (secondsOf (take blockSize s)) (drop blockSize s) ≡ 0 → SumLine f s
-unfolding printed sumsOf
+unfolding printed endText sumsOf
 sum-line f s header none =
     let o = ownerOf (take blockSize s) in
     let t = secondsOf (take blockSize s) in

@@ -18,7 +18,9 @@ use Rattle.report.specs.declared.Form.{Form}
 use Rattle.report.specs.declared.run.Plan.{Plan}
 use Rattle.report.specs.declared.run.Verdict.{Verdict}
 use Rattle.report.specs.declared.run.Verdict.the-variants as verdict
-use Rattle.report.specs.Running.{Ran, answered, refusedAt, secondIn, secondsIn}
+use Rattle.report.specs.Running.{Kept, keep, Ran, answered, refusedAt, secondIn, secondsIn}
+use Rattle.report.specs.Counts.{keptOf}
+use Rattle.report.proofs.Past.{tally-more}
 use Rattle.report.specs.Text.{linesOf}
 use Rattle.pieces.specs.Printed.{Judged, judgedBy, judged, bookSeconds}
 
@@ -43,10 +45,10 @@ rows-given : (h : History) (s : BookSecond) → numberAt h s ≡ 0 → answerAt 
 unfolding answerAt
 rows-given h s e = let c = cleared h s e in rw (c .form, c .unit, c .a, c .b)
 
-turned-down : (p : Plan) (t : ℕ) (k : Book) (a : BookAnswer) {n : ℕ} → numberIn a ≡ suc n → answered p t k a ≡ refusedAt k (suc n)
-turned-down p t k (answer.Rows u a b) e = absurd (omega (arith, e))
-turned-down p t k (answer.Refused m) e = rw e
-turned-down p t k (answer.RefusedBy w m) e = rw e
+turned-down : (p : Plan) (k : Kept) (b : Book) (a : BookAnswer) {n : ℕ} → numberIn a ≡ suc n → answered p k b a ≡ refusedAt (keep b (k .tally)) (suc n)
+turned-down p k b (answer.Rows u x y) e = absurd (omega (arith, e))
+turned-down p k b (answer.Refused m) e = rw e
+turned-down p k b (answer.RefusedBy w m) e = rw e
 
 -- what a number says of the run
 abbrev pub verdictOf : ℕ → Verdict
@@ -55,7 +57,7 @@ verdictOf (suc n) = verdict.Refused (suc n)
 
 pub record Agrees (r : Ran) (j : Judged) : Type 0 where
   pub text : r .text ≡ j .text
-  pub book : r .book ≡ stateOf (j .past)
+  pub kept : r .kept ≡ keptOf (j .past)
   pub verdict : r .verdict ≡ verdictOf (j .number)
   pub accepted : Accepted (j .past)
 
@@ -63,34 +65,34 @@ module _ (p : Plan) where
   abbrev second : List ℕ → BookSecond
   second s = secondOf (p .owner) s
 
-  taken : (h : History) (s : List ℕ) → Accepted h → numberAt h (second s) ≡ 0 → secondIn p (stateOf h) s ≡ record { text = linesOf (p .form) (length h) (unitRowAt h (second s)) (aRowAt h (second s)) (bRowAt h (second s)); book = stateOf (second s ∷ h); verdict = verdict.Accepted }
+  taken : (h : History) (s : List ℕ) → Accepted h → numberAt h (second s) ≡ 0 → secondIn p (keptOf h) s ≡ record { text = linesOf (p .form) (length h) (unitRowAt h (second s)) (aRowAt h (second s)) (bRowAt h (second s)); kept = keptOf (second s ∷ h); verdict = verdict.Accepted }
   unfolding secondIn
   taken h s f e =
       let o = over-past h f (second s) in
-      rw (o .answer, o .book, rows-given h (second s) e, grown-more h (second s) e, counted h)
+      rw (o .answer, o .book, rows-given h (second s) e, grown-more h (second s) e, counted h, tally-more h (second s))
 
-  refused : (h : History) (s : List ℕ) {n : ℕ} → Accepted h → numberAt h (second s) ≡ suc n → secondIn p (stateOf h) s ≡ refusedAt (stateOf h) (suc n)
+  refused : (h : History) (s : List ℕ) {n : ℕ} → Accepted h → numberAt h (second s) ≡ suc n → secondIn p (keptOf h) s ≡ refusedAt (keptOf h) (suc n)
   unfolding secondIn
   refused h s f e =
       let o = over-past h f (second s) in
-      rw (o .book, grown-same h (second s) e) (turned-down p (stateOf h .unit .seconds) (stateOf h) (stepIn (stateOf h) (second s) .answer) (o .number ∙ e))
+      rw (o .book, grown-same h (second s) e) (turned-down p (keptOf h) (stateOf h) (stepIn (stateOf h) (second s) .answer) (o .number ∙ e))
 
-  pub agree : (l : List (List ℕ)) (h : History) → Accepted h → Agrees (secondsIn p (stateOf h) l) (judged (p .form) h (bookSeconds (p .owner) l))
+  pub agree : (l : List (List ℕ)) (h : History) → Accepted h → Agrees (secondsIn p (keptOf h) l) (judged (p .form) h (bookSeconds (p .owner) l))
   unfolding secondsIn judged Accepted
-  agree [] h f = record { text = refl; book = refl; verdict = refl; accepted = f }
+  agree [] h f = record { text = refl; kept = refl; verdict = refl; accepted = f }
   agree (s ∷ l) h f = go (numberAt h (second s)) refl (λ e. agree l (second s ∷ h) (e, f))
     where
-      go : (n : ℕ) → numberAt h (second s) ≡ n → (numberAt h (second s) ≡ 0 → Agrees (secondsIn p (stateOf (second s ∷ h)) l) (judged (p .form) (second s ∷ h) (bookSeconds (p .owner) l))) → Agrees (secondsIn p (stateOf h) (s ∷ l)) (judged (p .form) h (bookSeconds (p .owner) (s ∷ l)))
+      go : (n : ℕ) → numberAt h (second s) ≡ n → (numberAt h (second s) ≡ 0 → Agrees (secondsIn p (keptOf (second s ∷ h)) l) (judged (p .form) (second s ∷ h) (bookSeconds (p .owner) l))) → Agrees (secondsIn p (keptOf h) (s ∷ l)) (judged (p .form) h (bookSeconds (p .owner) (s ∷ l)))
       go zero e others =
           let rest = others e in
           rw (e, taken h s f e)
           (record {
             text = ap (λ (t : List ℕ). linesOf (p .form) (length h) (unitRowAt h (second s)) (aRowAt h (second s)) (bRowAt h (second s)) ++ t) (rest .text);
-            book = rest .book;
+            kept = rest .kept;
             verdict = rest .verdict;
             accepted = rest .accepted;
           })
-      go (suc n) e others = rw (e, refused h s f e) (record { text = refl; book = refl; verdict = refl; accepted = f })
+      go (suc n) e others = rw (e, refused h s f e) (record { text = refl; kept = refl; verdict = refl; accepted = f })
 
 -- ---- a list in two parts
 

@@ -20,11 +20,11 @@ use Rattle.codec.proofs.Puts.{loosen, none}
 use Rattle.report.specs.declared.run.Run.{Run}
 use Rattle.report.specs.declared.run.Verdict.{Verdict}
 use Rattle.report.specs.declared.run.Verdict.the-variants.{Accepted, Refused}
-use Rattle.report.specs.Running.{Ran, Adds, blockIn}
+use Rattle.report.specs.Running.{Kept, Ran, Adds, blockIn}
 use Rattle.report.specs.Text.{blockRoom}
 use Rattle.pieces.specs.declared.standing.Standing.{Standing}
 use Rattle.pieces.specs.declared.standing.Advance.{Advance}
-use Rattle.pieces.specs.Pieces.{Went, unmoved, withVerdict, afterHeader, headerBy, laterBy, beyondBy, dueBy, isDue, standingIn, bytesDue, wantedBy, wantedIn, pieceSize, StandingReady, Advances}
+use Rattle.pieces.specs.Pieces.{Went, unmoved, keptBy, withVerdict, afterHeader, headerBy, laterBy, beyondBy, dueBy, isDue, standingIn, bytesDue, wantedBy, wantedIn, pieceSize, StandingReady, Advances}
 use Rattle.pieces.proofs.Bytes.{beyond-is}
 
 -- ---- the header
@@ -55,7 +55,7 @@ module _ (st : Standing) (s : List ℕ) where
   unfolding standingIn
   header-is d z = rw (d, eq-eqb (st .next) 0 z)
 
-  pub later-is : isDue st ≡ true → (st .next ≡ 0 → ⊥) → standingIn st s ≡ laterBy (blockIn (st .plan) (st .next) (st .book) s) st
+  pub later-is : isDue st ≡ true → (st .next ≡ 0 → ⊥) → standingIn st s ≡ laterBy (blockIn (st .plan) (st .next) (keptBy st) s) st
   unfolding standingIn
   later-is d z = rw (d, ne-eqb (st .next) 0 z)
 
@@ -95,12 +95,12 @@ module _ (st : Standing) (s : List ℕ) {r : Standing} {b : List ℕ} {used : �
   header-block d z is = rw (header-is st s d z) (quiet is (no-text st s (headerNumber s)))
 
 -- a later one, from what its run added
-pub later-block : {st : Standing} {b e : List ℕ} {used : ℕ} {r : Run} {w : Ran} → StandingReady st → Adds blockRoom b e used r w → Advances blockRoom b e used (record { standing = record { plan = st .plan; next = st .next + 1; book = r .book; verdict = r .verdict }; used = r .used }) (laterBy w st)
+pub later-block : {st : Standing} {b e : List ℕ} {used : ℕ} {r : Run} {w : Ran} → StandingReady st → Adds blockRoom b e used r w → Advances blockRoom b e used (record { standing = record { plan = st .plan; next = st .next + 1; book = r .book; tally = r .tally; verdict = r .verdict }; used = r .used }) (laterBy w st)
 later-block {st} ready f =
     record {
-      standing = rw (f .book, f .verdict);
+      standing = rw (ap (λ (k : Kept). k .book) (f .kept), ap (λ (k : Kept). k .tally) (f .kept), f .verdict);
       text = f .text;
-      ready = record { book = f .ready; few = ready .few };
+      ready = record { kept = f .ready; few = ready .few };
     }
 
 -- ---- the bytes that are due

@@ -21,10 +21,12 @@ use Rattle.block.specs.Book.{Held, heldBy, pastLast, laterBlocks, lastBlock, bl
 use Rattle.report.specs.declared.Form.{Form}
 use Rattle.report.specs.declared.run.Verdict.{Verdict}
 use Rattle.report.specs.declared.run.Verdict.the-variants as verdict
-use Rattle.report.specs.Running.{Ran, blockIn, secondsIn}
+use Rattle.report.specs.Running.{Kept, Ran, blockIn, secondsIn}
+use Rattle.report.specs.Counts.{tallyOf, keptOf}
+use Rattle.report.proofs.Past.{tally-none}
 use Rattle.pieces.specs.declared.standing.Standing.{Standing}
-use Rattle.pieces.specs.Printed.{Judged, judged, lastText, bookSeconds, printedBy, printed}
-use Rattle.pieces.specs.Pieces.{Went, start, withVerdict, afterHeader, headerBy, laterBy, beyondBy, isDue, standingIn, onward, bytesIn, endOf, lastBy, lastIn}
+use Rattle.pieces.specs.Printed.{Judged, judged, lastText, endText, bookSeconds, printedBy, printed}
+use Rattle.pieces.specs.Pieces.{Went, start, keptBy, withVerdict, afterHeader, headerBy, laterBy, beyondBy, isDue, standingIn, onward, bytesIn, endOf, lastBy, lastLineIn, lastIn}
 use Rattle.pieces.proofs.Bytes.{refused-not-due, stays, beyond, filling, block-more}
 use Rattle.pieces.proofs.Steps.{header-is, later-is}
 use Rattle.pieces.proofs.Judged.{counted, verdictOf, Agrees, agree, then, two-parts}
@@ -35,24 +37,30 @@ closed st s = bytesIn st [] s .text ++ lastIn (bytesIn st [] s .standing)
 
 -- ---- the last line of a standing
 
-last-refused : (st : Standing) (h : History) {n : ℕ} → st .verdict ≡ verdict.Refused (suc n) → st .book ≡ stateOf h → lastIn st ≡ lastText (suc n) h
-unfolding lastIn endOf
-last-refused st h e k = rw (refused-not-due st e, e, k, counted h)
+book-is : {k l : Kept} → k ≡ l → k .book ≡ l .book
+book-is e = ap (λ (k : Kept). k .book) e
 
-last-short : (st : Standing) (h : History) → isDue st ≡ true → st .book ≡ stateOf h → lastIn st ≡ lastText 12 h
-unfolding lastIn endOf
-last-short st h d k = rw (d, k, counted h)
+tally-is : {k l : Kept} → k ≡ l → k .tally ≡ l .tally
+tally-is e = ap (λ (k : Kept). k .tally) e
 
-last-sums : (st : Standing) (h : History) → isDue st ≡ false → st .verdict ≡ verdict.Accepted → st .book ≡ stateOf h → lastIn st ≡ lastText 0 h
-unfolding lastIn endOf stateOf
-last-sums st h d e k = rw (d, e, k)
+last-refused : (st : Standing) (h : History) {n : ℕ} → st .verdict ≡ verdict.Refused (suc n) → keptBy st ≡ keptOf h → lastIn st ≡ endText (st .plan .form) (suc n) h
+unfolding lastIn lastLineIn endText endOf
+last-refused st h e k = rw (refused-not-due st e, e, book-is k, tally-is k, counted h)
+
+last-short : (st : Standing) (h : History) → isDue st ≡ true → keptBy st ≡ keptOf h → lastIn st ≡ endText (st .plan .form) 12 h
+unfolding lastIn lastLineIn endText endOf
+last-short st h d k = rw (d, book-is k, tally-is k, counted h)
+
+last-sums : (st : Standing) (h : History) → isDue st ≡ false → st .verdict ≡ verdict.Accepted → keptBy st ≡ keptOf h → lastIn st ≡ endText (st .plan .form) 0 h
+unfolding lastIn lastLineIn endText endOf stateOf
+last-sums st h d e k = rw (d, e, book-is k, tally-is k)
 
 -- after a refusal
-closed-refused : (st : Standing) (s : List ℕ) (h : History) {n : ℕ} → st .verdict ≡ verdict.Refused (suc n) → st .book ≡ stateOf h → closed st s ≡ lastText (suc n) h
+closed-refused : (st : Standing) (s : List ℕ) (h : History) {n : ℕ} → st .verdict ≡ verdict.Refused (suc n) → keptBy st ≡ keptOf h → closed st s ≡ endText (st .plan .form) (suc n) h
 closed-refused st s h e k = rw (stays st s e) (last-refused st h e k)
 
 -- a block that isn't whole
-closed-short : (st : Standing) (s : List ℕ) (h : History) → isDue st ≡ true → length s < blockSize → st .book ≡ stateOf h → closed st s ≡ lastText 12 h
+closed-short : (st : Standing) (s : List ℕ) (h : History) → isDue st ≡ true → length s < blockSize → keptBy st ≡ keptOf h → closed st s ≡ endText (st .plan .form) 12 h
 closed-short st s h d l k = rw (filling st [] s d (omega arith)) (last-short st h d k)
 
 -- a whole block, and what follows it
@@ -67,12 +75,12 @@ closed-block st s h =
 -- ---- the later blocks
 
 abbrev later : Form → ℕ → ℕ → ℕ → History → Standing
-later f o t n h = record { plan = record { form = f; owner = o; seconds = t }; next = n; book = stateOf h; verdict = verdict.Accepted }
+later f o t n h = record { plan = record { form = f; owner = o; seconds = t }; next = n; book = stateOf h; tally = tallyOf h; verdict = verdict.Accepted }
 
 -- what the blocks of a book hold, judged after the past h
 abbrev ended : Form → ℕ → History → Held → List ℕ
 ended f o h b =
-    judged f h (bookSeconds o (b .seconds)) .text ++ lastText (orElse (judged f h (bookSeconds o (b .seconds)) .number) (b .number)) (judged f h (bookSeconds o (b .seconds)) .past)
+    judged f h (bookSeconds o (b .seconds)) .text ++ endText f (orElse (judged f h (bookSeconds o (b .seconds)) .number) (b .number)) (judged f h (bookSeconds o (b .seconds)) .past)
 
 is-due-at : (f : Form) (o t n : ℕ) (h : History) → n ≤ lastBlock t → isDue (later f o t n h) ≡ true
 unfolding isDue
@@ -91,7 +99,7 @@ no-bytes : (st : Standing) → closed st [] ≡ lastIn st
 unfolding bytesIn
 no-bytes st = refl
 
-at-end : (f : Form) (o t n : ℕ) (h : History) (s : List ℕ) → lastBlock t < n → closed (later f o t n h) s ≡ lastText (pastLast s) h
+at-end : (f : Form) (o t n : ℕ) (h : History) (s : List ℕ) → lastBlock t < n → closed (later f o t n h) s ≡ endText f (pastLast s) h
 at-end f o t n h [] k = no-bytes (later f o t n h) ∙ last-sums (later f o t n h) h (not-due-at f o t n h k) refl refl
 at-end f o t n h (b ∷ s) k =
     let st = later f o t n h in
@@ -112,7 +120,7 @@ module _ (f : Form) (o : ℕ) (h : History) (l : List (List ℕ)) (b : Held) whe
   goes-on : block .number ≡ 0 → ended f o h (record { seconds = l ++ b .seconds; number = b .number }) ≡ block .text ++ ended f o (block .past) b
   goes-on e = rw (all, e) (rw append-assoc)
 
-  stops : {q : ℕ} → block .number ≡ suc q → ended f o h (record { seconds = l ++ b .seconds; number = b .number }) ≡ block .text ++ lastText (suc q) (block .past)
+  stops : {q : ℕ} → block .number ≡ suc q → ended f o h (record { seconds = l ++ b .seconds; number = b .number }) ≡ block .text ++ endText f (suc q) (block .past)
   unfolding judged
   stops e = rw (all, e) (rw e)
 
@@ -120,14 +128,14 @@ module _ (f : Form) (o t n : ℕ) (h : History) (s : List ℕ) (first : 0 < n) (
   abbrev st : Standing
   st = later f o t n h
 
-  is-later : standingIn st s ≡ laterBy (blockIn (st .plan) n (stateOf h) s) st
+  is-later : standingIn st s ≡ laterBy (blockIn (st .plan) n (keptOf h) s) st
   is-later = later-is st s due (λ z. omega (arith, z))
 
-  block-refused : {m : ℕ} → blockNumber s t n ≡ suc m → standingIn st s ≡ laterBy (record { text = []; book = stateOf h; verdict = verdict.Refused (suc m) }) st
+  block-refused : {m : ℕ} → blockNumber s t n ≡ suc m → standingIn st s ≡ laterBy (record { text = []; kept = keptOf h; verdict = verdict.Refused (suc m) }) st
   unfolding blockIn
   block-refused e = is-later ∙ rw e
 
-  block-run : blockNumber s t n ≡ 0 → standingIn st s ≡ laterBy (secondsIn (st .plan) (stateOf h) (secondsFrom s 0 (countOf s))) st
+  block-run : blockNumber s t n ≡ 0 → standingIn st s ≡ laterBy (secondsIn (st .plan) (keptOf h) (secondsFrom s 0 (countOf s))) st
   unfolding blockIn
   block-run e = is-later ∙ rw e
 
@@ -145,17 +153,17 @@ module _
   held = secondsFrom head 0 (countOf head)
 
   abbrev ran : Ran
-  ran = secondsIn (record { form = f; owner = o; seconds = t }) (stateOf h) held
+  ran = secondsIn (record { form = f; owner = o; seconds = t }) (keptOf h) held
 
   after : (b : ℕ) → judged f h (bookSeconds o held) .number ≡ b → Agrees ran (judged f h (bookSeconds o held)) → ran .text ++ closed (laterBy ran (later f o t n h) .standing) rest ≡ ended f o h (heldBy 0 head (laterBlocks t (suc n) left rest))
   after zero q a =
       let j = judged f h (bookSeconds o held) in
-      rw (goes-on f o h held (laterBlocks t (suc n) left rest) q, a .text, a .book, a .verdict ∙ ap verdictOf q, add-one)
+      rw (goes-on f o h held (laterBlocks t (suc n) left rest) q, a .text, a .kept, a .verdict ∙ ap verdictOf q, add-one)
       (ap (λ (l : List ℕ). j .text ++ l) (others (j .past) (a .accepted)))
   after (suc b) q a =
       let j = judged f h (bookSeconds o held) in
       rw (stops f o h held (laterBlocks t (suc n) left rest) q, a .text)
-      (ap (λ (l : List ℕ). j .text ++ l) (closed-refused (laterBy ran (later f o t n h) .standing) rest (j .past) (a .verdict ∙ ap verdictOf q) (a .book)))
+      (ap (λ (l : List ℕ). j .text ++ l) (closed-refused (laterBy ran (later f o t n h) .standing) rest (j .past) (a .verdict ∙ ap verdictOf q) (a .kept)))
 
   by : (m : ℕ) → blockNumber head t n ≡ m → blockSize ≤ length s → closed (later f o t n h) s ≡ ended f o h (heldBy m head (laterBlocks t (suc n) left rest))
   unfolding judged
@@ -195,9 +203,13 @@ start-next : (f : Form) → start f .next ≡ 0
 unfolding start
 start-next f = refl
 
-start-book : (f : Form) → start f .book ≡ stateOf []
+start-kept : (f : Form) → keptBy (start f) ≡ keptOf []
 unfolding start
-start-book f = fresh-is
+start-kept f = rw (fresh-is, tally-none)
+
+start-form : (f : Form) → start f .plan .form ≡ f
+unfolding start
+start-form f = refl
 
 short-header : (s : List ℕ) → length s < blockSize → headerNumber s ≡ 12
 unfolding headerNumber
@@ -205,7 +217,7 @@ short-header s h = rw (ne-eqb (length s) blockSize (λ q. omega (arith, q)))
 
 after-header : (f : Form) (o t : ℕ) → afterHeader (start f) o t ≡ later f o t 1 []
 unfolding start
-after-header f o t = rw fresh-is
+after-header f o t = rw (fresh-is, tally-none)
 
 pub whole : (f : Form) (s : List ℕ) → closed (start f) s ≡ printed f s
 unfolding printed Accepted
@@ -220,7 +232,7 @@ whole f s = go (leb blockSize (length s)) refl
     by (suc m) r k =
         closed-block (start f) s k
         ∙ rw (header-is (start f) (take blockSize s) (start-due f) (start-next f), r)
-        (closed-refused (withVerdict (start f) (verdict.Refused (suc m))) (drop blockSize s) [] refl (start-book f))
+        (closed-refused (withVerdict (start f) (verdict.Refused (suc m))) (drop blockSize s) [] refl (start-kept f) ∙ ap (λ (g : Form). endText g (suc m) []) (start-form f))
 
     go : (b : Bool) → leb blockSize (length s) ≡ b → closed (start f) s ≡ printedBy (headerNumber (take blockSize s)) f (take blockSize s) (drop blockSize s)
     go true q = by (headerNumber (take blockSize s)) refl (leb-true _ _ q)
@@ -228,4 +240,4 @@ whole f s = go (leb blockSize (length s)) refl
         let short : length s < blockSize = leb-false blockSize (length s) q in
         let all : take blockSize s ≡ s = take-all blockSize s (omega arith) in
         let number : headerNumber (take blockSize s) ≡ 12 = ap headerNumber all ∙ short-header s short in
-        rw number (closed-short (start f) s [] (start-due f) short (start-book f))
+        rw number (closed-short (start f) s [] (start-due f) short (start-kept f) ∙ ap (λ (g : Form). endText g 12 []) (start-form f))

@@ -13,6 +13,8 @@ use Rattle.block.specs.Header.{headerNumber, ownerOf, secondsOf}
 use Rattle.block.specs.Book.{blocksOf}
 use Rattle.line.specs.Line.{sumText}
 use Rattle.report.specs.declared.Form.{Form}
+use Rattle.report.specs.Text.{countsOf}
+use Rattle.report.specs.Counts.{tallyOf}
 use Rattle.pieces.specs.declared.standing.Standing.{Standing}
 use Rattle.pieces.specs.Printed.{bookSeconds, numberIn, printed}
 use Rattle.pieces.specs.Pieces.{start, bytesIn, lastIn, wantedIn}
@@ -31,11 +33,12 @@ abbrev pub secondsHeld : List ℕ → List BookSecond
 secondsHeld s =
     bookSeconds (ownerOf (take blockSize s)) (blocksOf (secondsOf (take blockSize s)) (drop blockSize s) .seconds)
 
--- the book s is printed whole: its text ends with a sum line, whose figures are the four sums of demand 3 over the seconds that the blocks hold
+-- the book s is printed whole: its text ends with a sum line, whose figures are the four sums of demand 3 over the seconds that the blocks hold; in
+-- the short form the counts over these seconds stand before it
 pub record SumLine (f : Form) (s : List ℕ) : Type 0 where
   pub lines : List ℕ
   pub figures : Sums
-  pub text : printed f s ≡ lines ++ sumText figures
+  pub text : printed f s ≡ lines ++ (countsOf f (tallyOf (accepted [] (secondsHeld s))) ++ sumText figures)
   pub a : figures .a .0 ≡ sumA (accepted [] (secondsHeld s))
   pub b : figures .b .0 ≡ sumB (accepted [] (secondsHeld s))
   pub «open» : figures .«open» .0 ≡ sumOpen (accepted [] (secondsHeld s))

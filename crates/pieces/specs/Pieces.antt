@@ -7,18 +7,20 @@ use mathlib.Core.List.{List, [], _∷_, _++_}
 use lib.Dec.{eqb, leb}
 use lib.ListN.{length, take}
 use Rattle.book.specs.declared.Book.{Book}
-use Rattle.book.specs.State.{fresh, Ready}
+use Rattle.book.specs.State.{fresh}
+use Rattle.tally.specs.Tally as tally
 use Rattle.record.specs.Record.{mostSeconds}
 use Rattle.block.specs.Places.{blockSize}
 use Rattle.block.specs.Header.{headerNumber, ownerOf, secondsOf}
 use Rattle.block.specs.Book.{lastBlock}
 use Rattle.codec.specs.Put.{Put}
 use Rattle.line.specs.Line.{sumText, refusalText}
+use Rattle.line.specs.Widths.{rowRoom}
 use Rattle.report.specs.declared.Form.{Form}
 use Rattle.report.specs.declared.run.Verdict.{Verdict}
 use Rattle.report.specs.declared.run.Verdict.the-variants.{Accepted, Refused}
-use Rattle.report.specs.Running.{Ran, blockIn}
-use Rattle.report.specs.Text.{blockRoom}
+use Rattle.report.specs.Running.{Kept, keep, Ran, blockIn, KeptReady}
+use Rattle.report.specs.Text.{countsOf, secondRoom, blockRoom}
 use Rattle.pieces.specs.declared.standing.Standing.{Standing}
 use Rattle.pieces.specs.declared.standing.Advance.{Advance}
 use Rattle.pieces.specs.declared.reading.Reading.{Reading}
@@ -37,13 +39,17 @@ unmoved st p = record { text = []; standing = st; part = p }
 
 -- before the header its seconds count as 0, so that block 0, the header, is due
 unfoldable pub start : Form → Standing
-start f = record { plan = record { form = f; owner = 0; seconds = 0 }; next = 0; book = fresh; verdict = Accepted }
+start f = record { plan = record { form = f; owner = 0; seconds = 0 }; next = 0; book = fresh; tally = tally.zero; verdict = Accepted }
+
+-- what it keeps of the accepted seconds
+abbrev pub keptBy : Standing → Kept
+keptBy st = keep (st .book) (st .tally)
 
 abbrev pub withVerdict : Standing → Verdict → Standing
-withVerdict st v = record { plan = st .plan; next = st .next; book = st .book; verdict = v }
+withVerdict st v = record { plan = st .plan; next = st .next; book = st .book; tally = st .tally; verdict = v }
 
 abbrev pub afterHeader : Standing → ℕ → ℕ → Standing
-afterHeader st o t = record { plan = record { form = st .plan .form; owner = o; seconds = t }; next = 1; book = st .book; verdict = st .verdict }
+afterHeader st o t = record { plan = record { form = st .plan .form; owner = o; seconds = t }; next = 1; book = st .book; tally = st .tally; verdict = st .verdict }
 
 abbrev pub headerBy : ℕ → Standing → List ℕ → Went
 headerBy zero st s = unmoved (afterHeader st (ownerOf s) (secondsOf s)) []
@@ -53,7 +59,7 @@ abbrev pub laterBy : Ran → Standing → Went
 laterBy r st =
     record {
       text = r .text;
-      standing = record { plan = st .plan; next = st .next + 1; book = r .book; verdict = r .verdict };
+      standing = record { plan = st .plan; next = st .next + 1; book = r .kept .book; tally = r .kept .tally; verdict = r .verdict };
       part = [];
     }
 
@@ -75,7 +81,7 @@ isDue st = dueBy (st .verdict) (st .next) (st .plan .seconds)
 unfoldable pub standingIn : Standing → List ℕ → Went
 standingIn st s =
     cond (isDue st)
-    (cond (eqb (st .next) 0) (headerBy (headerNumber s) st s) (laterBy (blockIn (st .plan) (st .next) (st .book) s) st))
+    (cond (eqb (st .next) 0) (headerBy (headerNumber s) st s) (laterBy (blockIn (st .plan) (st .next) (keptBy st) s) st))
     (beyondBy (st .verdict) st s)
 
 -- ---- byte after byte
@@ -110,8 +116,12 @@ abbrev pub lastBy : Verdict → Book → List ℕ
 lastBy Accepted k = sumText (k .sums)
 lastBy (Refused n) k = refusalText n (k .unit .seconds)
 
+unfoldable pub lastLineIn : Standing → List ℕ
+lastLineIn st = lastBy (endOf st) (st .book)
+
+-- with what stands before it
 unfoldable pub lastIn : Standing → List ℕ
-lastIn st = lastBy (endOf st) (st .book)
+lastIn st = countsOf (st .plan .form) (st .tally) ++ lastLineIn st
 
 -- ---- what the operations ask and answer
 
@@ -124,6 +134,10 @@ pieceSize = pieceBlocks * blockSize
 
 abbrev pub pieceRoom : ℕ
 pieceRoom = (pieceBlocks + 2) * blockRoom
+
+-- room for the counts and the last line
+abbrev pub endRoom : ℕ
+endRoom = secondRoom + rowRoom
 
 -- how many bytes are to be read next, at most: none after a refusal, one past the last block, else no more than the blocks due have
 abbrev pub wantedBy : Verdict → Bool → ℕ → ℕ
@@ -140,7 +154,7 @@ unfoldable pub wantedIn : Standing → ℕ → ℕ
 wantedIn st filled = wantedBy (st .verdict) (isDue st) (bytesDue st - filled)
 
 pub record StandingReady (st : Standing) : Type 0 where
-  pub book : Ready (st .book)
+  pub kept : KeptReady (keptBy st)
   pub few : st .plan .seconds ≤ mostSeconds
 
 pub record Advances (m : ℕ) (b e : List ℕ) (used : ℕ) (r : Advance) (w : Went) : Type 0 where

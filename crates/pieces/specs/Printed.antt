@@ -14,7 +14,8 @@ use Rattle.block.specs.Header.{headerNumber, ownerOf, secondsOf}
 use Rattle.block.specs.Book.{blocksOf}
 use Rattle.line.specs.Line.{sumText, refusalText}
 use Rattle.report.specs.declared.Form.{Form}
-use Rattle.report.specs.Text.{linesOf}
+use Rattle.report.specs.Text.{linesOf, countsOf}
+use Rattle.report.specs.Counts.{tallyOf}
 
 -- ---- the seconds judged in turn
 
@@ -45,6 +46,10 @@ abbrev pub lastText : ℕ → History → List ℕ
 lastText zero h = sumText (sumsOf h)
 lastText (suc n) h = refusalText (suc n) (length h)
 
+-- in the short form the counts over the accepted seconds stand before it
+unfoldable pub endText : Form → ℕ → History → List ℕ
+endText f n h = countsOf f (tallyOf h) ++ lastText n h
+
 -- ---- the whole
 
 -- the seconds of the blocks s of a book of owner o and t seconds, judged from a fresh book
@@ -61,8 +66,8 @@ numberIn f o t s = orElse (judgedIn f o t s .number) (blocksOf t s .number)
 abbrev pub printedBy : ℕ → Form → List ℕ → List ℕ → List ℕ
 printedBy zero f head s =
     judgedIn f (ownerOf head) (secondsOf head) s .text
-    ++ lastText (numberIn f (ownerOf head) (secondsOf head) s) (judgedIn f (ownerOf head) (secondsOf head) s .past)
-printedBy (suc n) f head s = lastText (suc n) []
+    ++ endText f (numberIn f (ownerOf head) (secondsOf head) s) (judgedIn f (ownerOf head) (secondsOf head) s .past)
+printedBy (suc n) f head s = endText f (suc n) []
 
 -- "The program reads a book from standard input and prints a line a second, then a sum line."
 unfoldable pub printed : Form → List ℕ → List ℕ

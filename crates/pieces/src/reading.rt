@@ -8,10 +8,9 @@ ghost use mathlib.Core.Path.{_≡_};
 ghost use mathlib.Core.Bool.{true};
 ghost use lib.ListN.{length};
 ghost use Rattle.codec.specs.Put.{Put};
-ghost use Rattle.line.specs.Widths.{rowRoom};
 ghost use Rattle.block.specs.Places.{blockSize};
 ghost use Rattle.report.specs.Text.{blockRoom};
-ghost use Rattle.pieces.specs.Pieces.{isDue, bytesIn, lastIn, partOf, pieceBlocks, pieceSize, pieceRoom, StandingReady, BlocksRun, ReadingReady, Fitting, Chunked, Takes, IsStart, Wanted};
+ghost use Rattle.pieces.specs.Pieces.{isDue, bytesIn, lastIn, partOf, pieceBlocks, pieceSize, pieceRoom, endRoom, StandingReady, BlocksRun, ReadingReady, Fitting, Chunked, Takes, IsStart, Wanted};
 
 // The most bytes that are taken at once, and the room that their text asks for, three lines a second.
 pub const PIECE: usize = PIECE_BLOCKS * block::SIZE;
@@ -191,12 +190,15 @@ impl Reading {
         reading.chunk(run.used, &bytes[whole..], out)
     }
 
-    // The last line, where the bytes end here.
+    // The last line, where the bytes end here, after the counts that stand before it.
     pub fn last_line(self, out: &mut [u8]) -> usize
         requires { ⌜ ReadingReady self × (pieceRoom ≤ length (now out)) ⌝ }
-        ensures { λ r. ⌜ Put rowRoom (now (out .entry)) (now (out .exit)) 0 r (lastIn (self .standing)) ⌝ }
+        ensures { λ r. ⌜ Put endRoom (now (out .entry)) (now (out .exit)) 0 r (lastIn (self .standing)) ⌝ }
     {
         let standing = self.standing;
-        report::add(out, 0, standing.last_line())
+        let plan = standing.plan;
+        let form = plan.form;
+        let at = report::add_counts(out, 0, form, standing.tally);
+        report::add(out, at, standing.last_line())
     }
 }

@@ -5,6 +5,7 @@ use report::Form;
 use report::Plan;
 use report::TextLine;
 use report::Verdict;
+use tally::Tally;
 ghost use Prim.Native.Nat.{_+_, _≤_};
 ghost use mathlib.Core.Path.{_≡_};
 ghost use mathlib.Core.Bool.{true};
@@ -12,7 +13,7 @@ ghost use lib.ListN.{length};
 ghost use Rattle.record.specs.Record.{mostSeconds};
 ghost use Rattle.report.specs.Text.{blockRoom, textOf};
 ghost use Rattle.report.specs.Running.{blockIn};
-ghost use Rattle.pieces.specs.Pieces.{start, isDue, bytesDue, withVerdict, headerBy, laterBy, beyondBy, standingIn, lastIn, endOf, StandingReady, Advances};
+ghost use Rattle.pieces.specs.Pieces.{start, keptBy, isDue, bytesDue, withVerdict, headerBy, laterBy, beyondBy, standingIn, lastLineIn, endOf, StandingReady, Advances};
 ghost use Rattle.block.specs.Header.{headerNumber};
 
 // Where a book stands between two of its blocks: `next` is the number of the block next in turn, 0 for the header. Before the header the plan
@@ -21,6 +22,7 @@ pub struct Standing {
     pub plan: Plan,
     pub next: u32,
     pub book: Book,
+    pub tally: Tally,
     pub verdict: Verdict,
 }
 
@@ -42,6 +44,7 @@ impl Standing {
             },
             next: 0,
             book: Book::new(),
+            tally: Tally::new(),
             verdict: Verdict::Accepted,
         }
     }
@@ -73,11 +76,13 @@ impl Standing {
         ensures { λ r. ⌜ r ≡ withVerdict self (Verdict.Refused number) ⌝ }
     {
         let book = self.book;
+        let tally = self.tally;
         let plan = self.plan;
         Standing {
             plan,
             next: self.next,
             book,
+            tally,
             verdict: Verdict::Refused(number),
         }
     }
@@ -88,6 +93,7 @@ impl Standing {
         ensures { λ r. ⌜ (r ≡ headerBy (headerNumber (now (bytes .entry))) self (now (bytes .entry)) .standing) × StandingReady r ⌝ }
     {
         let book = self.book;
+        let tally = self.tally;
         let verdict = self.verdict;
         let plan = self.plan;
         let form = plan.form;
@@ -101,6 +107,7 @@ impl Standing {
                 },
                 next: 1,
                 book,
+                tally,
                 verdict,
             },
         }
@@ -109,17 +116,19 @@ impl Standing {
     // A later block: its seconds are run, or it is refused.
     fn later(self, used: usize, bytes: &[u8], out: &mut [u8]) -> Advance
         requires { ⌜ StandingReady self × (used + blockRoom ≤ length (now out)) × (self .next ≤ mostSeconds) ⌝ }
-        ensures { λ r. ⌜ Advances blockRoom (now (out .entry)) (now (out .exit)) used r (laterBy (blockIn (self .plan) (self .next) (self .book) (now (bytes .entry))) self) ⌝ }
+        ensures { λ r. ⌜ Advances blockRoom (now (out .entry)) (now (out .exit)) used r (laterBy (blockIn (self .plan) (self .next) (keptBy self) (now (bytes .entry))) self) ⌝ }
     {
         let plan = self.plan;
-        let run = report::run_block(self.book, used, plan, self.next, bytes, out);
+        let run = report::run_block(self.book, self.tally, used, plan, self.next, bytes, out);
         let book = run.book;
+        let tally = run.tally;
         let verdict = run.verdict;
         Advance {
             standing: Standing {
                 plan,
                 next: self.next + 1,
                 book,
+                tally,
                 verdict,
             },
             used: run.used,
@@ -175,7 +184,7 @@ impl Standing {
     // The sum line, or the refusal.
     pub(crate) fn last_line(self) -> TextLine
         requires { ⌜ StandingReady self ⌝ }
-        ensures { λ r. ⌜ textOf r ≡ lastIn self ⌝ }
+        ensures { λ r. ⌜ textOf r ≡ lastLineIn self ⌝ }
     {
         let book = self.book;
         let sums = book.sums;

@@ -1,3 +1,6 @@
+pub mod Counting
 pub mod Adding
 pub mod Seconds
 pub mod Blocks
+pub mod Past
+pub mod Claims

@@ -1,2 +1,4 @@
 pub mod Text
 pub mod Running
+pub mod Counts
+pub mod Claims

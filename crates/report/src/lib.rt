@@ -5,13 +5,16 @@ mod run;
 
 pub use lines::TextLine;
 pub use lines::add;
+pub use lines::add_counts;
 pub use run::Plan;
 pub use run::Run;
 pub use run::Verdict;
 pub use run::run_block;
 
-// What a second is printed as: one line with the actual values, or a line a plant with every figure of its row.
+// What a second is printed as: one line with the actual values; a line a plant with every figure of its row; or a line for each kind outside its
+// band, and at the end how often each was.
 pub enum Form {
     Line,
     Figures,
+    Short,
 }

@@ -1,15 +1,17 @@
 // The lines of a second and the last line, appended to the text that waits.
 use crate::Form;
 use line::Answer;
+use row::PlantCounts;
 use row::Row;
 use row::Sums;
+use tally::Tally;
 ghost use mathlib.Core.Path.{_≡_};
 ghost use Prim.Native.Nat.{_+_, _≤_};
 ghost use lib.ListN.{length};
 ghost use Rattle.line.specs.Lined.{Lined};
 ghost use Rattle.codec.specs.Put.{Put};
 ghost use Rattle.line.specs.Widths.{rowRoom};
-ghost use Rattle.report.specs.Text.{textOf, roomOf, linesOf, secondRoom};
+ghost use Rattle.report.specs.Text.{textOf, roomOf, linesOf, tallyText, countsOf, secondRoom};
 
 // The lines that are printed.
 pub enum TextLine {
@@ -29,6 +31,15 @@ pub enum TextLine {
         number: u8,
         seconds: u32,
     },
+    Short {
+        second: u32,
+        letter: u8,
+        row: Row,
+    },
+    Counts {
+        letter: u8,
+        counts: PlantCounts,
+    },
 }
 
 fn write(buf: &mut [u8], text: TextLine) -> Answer
@@ -43,6 +54,12 @@ fn write(buf: &mut [u8], text: TextLine) -> Answer
         } => line::plant_line(buf, second, letter, row),
         TextLine::Sums(sums) => line::sum_line(buf, sums),
         TextLine::Refusal { number, seconds } => line::refusal_line(buf, number, seconds),
+        TextLine::Short {
+            second,
+            letter,
+            row,
+        } => line::plant_short(buf, second, letter, row),
+        TextLine::Counts { letter, counts } => line::plant_counts(buf, letter, counts),
     }
 }
 
@@ -78,6 +95,58 @@ fn add_figures(out: &mut [u8], at: usize, second: u32, unit: Row, a: Row, b: Row
     add_plant(out, at, second, b'B', b)
 }
 
+fn add_plant_short(out: &mut [u8], at: usize, second: u32, letter: u8, row: Row) -> usize
+    requires { ⌜ at + rowRoom ≤ length (now out) ⌝ }
+    ensures { λ r. ⌜ Put rowRoom (now (out .entry)) (now (out .exit)) at r (textOf (TextLine.Short second letter row)) ⌝ }
+{
+    add(
+        out,
+        at,
+        TextLine::Short {
+            second,
+            letter,
+            row,
+        },
+    )
+}
+
+fn add_short(out: &mut [u8], at: usize, second: u32, unit: Row, a: Row, b: Row) -> usize
+    requires { ⌜ at + secondRoom ≤ length (now out) ⌝ }
+    ensures { λ r. ⌜ Put secondRoom (now (out .entry)) (now (out .exit)) at r (linesOf Form.Short second unit a b) ⌝ }
+{
+    let at = add_plant_short(out, at, second, b'U', unit);
+    let at = add_plant_short(out, at, second, b'A', a);
+    add_plant_short(out, at, second, b'B', b)
+}
+
+fn add_plant_counts(out: &mut [u8], at: usize, letter: u8, counts: PlantCounts) -> usize
+    requires { ⌜ at + rowRoom ≤ length (now out) ⌝ }
+    ensures { λ r. ⌜ Put rowRoom (now (out .entry)) (now (out .exit)) at r (textOf (TextLine.Counts letter counts)) ⌝ }
+{
+    add(out, at, TextLine::Counts { letter, counts })
+}
+
+fn add_tally(out: &mut [u8], at: usize, tally: Tally) -> usize
+    requires { ⌜ at + secondRoom ≤ length (now out) ⌝ }
+    ensures { λ r. ⌜ Put secondRoom (now (out .entry)) (now (out .exit)) at r (tallyText tally) ⌝ }
+{
+    let at = add_plant_counts(out, at, b'U', tally.unit);
+    let at = add_plant_counts(out, at, b'A', tally.a);
+    add_plant_counts(out, at, b'B', tally.b)
+}
+
+// Appends what stands before the last line: in the short form the counts, else nothing.
+pub fn add_counts(out: &mut [u8], at: usize, form: Form, tally: Tally) -> usize
+    requires { ⌜ at + secondRoom ≤ length (now out) ⌝ }
+    ensures { λ r. ⌜ Put secondRoom (now (out .entry)) (now (out .exit)) at r (countsOf form tally) ⌝ }
+{
+    match form {
+        Form::Line => at,
+        Form::Figures => at,
+        Form::Short => add_tally(out, at, tally),
+    }
+}
+
 // Appends the lines of an accepted second.
 pub(crate) fn add_second(
     out: &mut [u8],
@@ -94,5 +163,6 @@ pub(crate) fn add_second(
     match form {
         Form::Line => add(out, at, TextLine::Second { second, unit, a, b }),
         Form::Figures => add_figures(out, at, second, unit, a, b),
+        Form::Short => add_short(out, at, second, unit, a, b),
     }
 }

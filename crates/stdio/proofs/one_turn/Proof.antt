@@ -44,7 +44,7 @@ pass-on-requires : tie.Need-pass-on-requires
 pass-on-requires c κs = search needs
 
 same-length-3 : tie.Need-same-length-3
-same-length-3 c = search needs
+same-length-3 c = let p = c .before .before .before .before .before .before .before .before .before .before in search needs
 
 same-length-4 : tie.Need-same-length-4
 same-length-4 c = search needs

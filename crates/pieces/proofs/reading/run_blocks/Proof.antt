@@ -41,7 +41,7 @@ block-requires c κs =
     (inv .1 .blocks .advances .ready, block-room (start .pre .1) (start .pre .2) (c .before .before .loop-test .taken) (inv .1) (start .pre .3))
 
 add-k : tie.Need-add-k Inv-loop μ-loop
-add-k c = search needs
+add-k c = omega (arith, c .before .before .before .before .before .loop-test .taken, c .before .before .before .before .before .before .before .before .before .pre .2)
 
 loop-less : tie.Need-loop-less Inv-loop μ-loop
 loop-less c = search needs

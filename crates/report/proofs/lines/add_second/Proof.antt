@@ -17,6 +17,12 @@ enum-told-2 c = search needs
 add-figures-requires : tie.Need-add-figures-requires
 add-figures-requires c κs = search needs
 
+enum-told-3 : tie.Need-enum-told-3
+enum-told-3 c = search needs
+
+add-short-requires : tie.Need-add-short-requires
+add-short-requires c κs = search needs
+
 same-length : tie.Need-same-length
 same-length c = search needs
 
@@ -29,6 +35,12 @@ same-length-2 c = search needs
 returns-2 : tie.Need-returns-2
 returns-2 c = rw (c .before .before .before .before .enum-told2 .given .1) (c .before .before .add-figures .ensures)
 
+same-length-3 : tie.Need-same-length-3
+same-length-3 c = search needs
+
+returns-3 : tie.Need-returns-3
+returns-3 c = rw (c .before .before .before .before .enum-told3 .given .1) (c .before .before .add-short .ensures)
+
 pub add-second-spec : {M : Type 1} → statement M
 add-second-spec =
     tie.close
@@ -37,7 +49,11 @@ add-second-spec =
     add-requires
     enum-told-2
     add-figures-requires
+    enum-told-3
+    add-short-requires
     same-length
     returns
     same-length-2
-    returns-2)
+    returns-2
+    same-length-3
+    returns-3)

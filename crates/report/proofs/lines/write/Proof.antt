@@ -27,6 +27,18 @@ enum-known-text-4 c = search needs
 refusal-line-requires : tie.Need-refusal-line-requires
 refusal-line-requires c κs = search needs
 
+enum-known-text-5 : tie.Need-enum-known-text-5
+enum-known-text-5 c = search needs
+
+plant-short-requires : tie.Need-plant-short-requires
+plant-short-requires c κs = search needs
+
+enum-known-text-6 : tie.Need-enum-known-text-6
+enum-known-text-6 c = search needs
+
+plant-counts-requires : tie.Need-plant-counts-requires
+plant-counts-requires c κs = search needs
+
 same-length : tie.Need-same-length
 same-length c = search needs
 
@@ -51,6 +63,18 @@ same-length-4 c = search needs
 returns-4 : tie.Need-returns-4
 returns-4 c = rw (c .before .before .before .before .before .text4 .given .1) (c .before .before .refusal-line .ensures)
 
+same-length-5 : tie.Need-same-length-5
+same-length-5 c = search needs
+
+returns-5 : tie.Need-returns-5
+returns-5 c = rw (c .before .before .before .before .before .text5 .given .1) (c .before .before .plant-short .ensures)
+
+same-length-6 : tie.Need-same-length-6
+same-length-6 c = search needs
+
+returns-6 : tie.Need-returns-6
+returns-6 c = rw (c .before .before .before .before .before .text6 .given .1) (c .before .before .plant-counts .ensures)
+
 pub write-spec : {M : Type 1} → statement M
 write-spec =
     tie.close
@@ -63,6 +87,10 @@ write-spec =
     sum-line-requires
     enum-known-text-4
     refusal-line-requires
+    enum-known-text-5
+    plant-short-requires
+    enum-known-text-6
+    plant-counts-requires
     same-length
     returns
     same-length-2
@@ -70,4 +98,8 @@ write-spec =
     same-length-3
     returns-3
     same-length-4
-    returns-4)
+    returns-4
+    same-length-5
+    returns-5
+    same-length-6
+    returns-6)

@@ -1,5 +1,6 @@
 -- `report::run::run_block` meets its contract: an accepted block has 512 bytes and at most 4 seconds (`whole`). Assumes nothing.
 use borrow.Author.Needs.{needs}
+use Rattle.report.specs.Running.{keep}
 use Rattle.report.proofs.Blocks.{whole, in-turn, turned-down}
 use Rattle.report.proofs.run.run_block.Statement.{statement}
 use Rattle.report.proofs.run.run_block.Tie as tie
@@ -26,7 +27,7 @@ returns : tie.Need-returns
 returns c =
     let start = c .before .before .before .before .before .before .before in
     rw (c .refused .ensures)
-    (turned-down (start .args .plan) (start .args .n) (start .args .block .now) (start .args .book) (c .before .before .number .given .1) (c .before .before .before .before .read-block .ensures) (start .pre .0) (search needs))
+    (turned-down (start .args .plan) (start .args .n) (start .args .block .now) (keep (start .args .book) (start .args .tally)) (c .before .before .number .given .1) (c .before .before .before .before .read-block .ensures) (start .pre .0) (search needs))
 
 same-length : tie.Need-same-length
 same-length c = search needs
@@ -34,7 +35,7 @@ same-length c = search needs
 returns-2 : tie.Need-returns-2
 returns-2 c =
     let start = c .before .before .before .before .before .before .before .before .before .before in
-    rw (in-turn (start .args .plan) (start .args .n) (start .args .block .now) (start .args .book) (c .before .before .before .before .before .count .given .1) (c .before .before .before .before .before .before .before .read-block .ensures))
+    rw (in-turn (start .args .plan) (start .args .n) (start .args .block .now) (keep (start .args .book) (start .args .tally)) (c .before .before .before .before .before .count .given .1) (c .before .before .before .before .before .before .before .read-block .ensures))
     (c .before .before .run-seconds .ensures)
 
 pub run-block-spec : {M : Type 1} → statement M

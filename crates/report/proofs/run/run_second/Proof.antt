@@ -1,6 +1,8 @@
 -- `report::run::run_second` meets its contract, by the book's answer. Assumes nothing.
+use native.Mathlib.Omega.{arith}
+use Rattle.report.specs.Running.{keep}
+use Rattle.report.proofs.Seconds.{has-room, taken, turned-down}
 use borrow.Author.Needs.{needs}
-use Rattle.report.proofs.Seconds.{taken, turned-down}
 use Rattle.report.proofs.run.run_second.Statement.{statement}
 use Rattle.report.proofs.run.run_second.Tie as tie
 
@@ -10,8 +12,11 @@ second-requires c κs = search needs
 enum-known-answer : tie.Need-enum-known-answer
 enum-known-answer c = search needs
 
+with-second-requires : tie.Need-with-second-requires
+with-second-requires c κs = let start = c .before .before .before .before .before .before .before in has-room (keep (start .args .book) (start .args .tally)) (start .pre .0)
+
 add-second-requires : tie.Need-add-second-requires
-add-second-requires c κs = search needs
+add-second-requires c κs = c .before .before .before .before .before .before .before .before .before .pre .1
 
 accepted-requires : tie.Need-accepted-requires
 accepted-requires c κs = search needs
@@ -32,13 +37,22 @@ same-length : tie.Need-same-length
 same-length c = search needs
 
 returns : tie.Need-returns
-returns c = rw (c .accepted .ensures) (taken (c .before .before .before .before .before .before .before .before .before .before .before .before .args .plan) (c .before .before .before .before .before .before .before .before .before .second .ensures) (c .before .before .before .before .before .before .answer .given .1) (c .before .before .before .add-second .ensures))
+returns c =
+    let start = c .before .before .before .before .before .before .before .before .before .before .before .before .before in
+    rw (c .accepted .ensures)
+    (taken (start .args .plan) (start .pre .0) (c .before .before .before .before .before .before .before .before .before .before .second .ensures) (c .before .before .before .before .before .before .before .answer .given .1) (c .before .before .before .before .before .with-second .ensures) (c .before .before .before .add-second .ensures))
 
 returns-2 : tie.Need-returns-2
-returns-2 c = rw (c .refused .ensures) (turned-down (c .before .before .before .before .before .before .before .before .args .plan) (c .before .before .before .before .before .second .ensures) (rw (c .before .before .answer2 .given .1)) (search needs))
+returns-2 c =
+    let start = c .before .before .before .before .before .before .before .before in
+    rw (c .refused .ensures)
+    (turned-down (start .args .plan) (start .pre .0) (c .before .before .before .before .before .second .ensures) (rw (c .before .before .answer2 .given .1)) (omega (arith, start .pre .1)))
 
 returns-3 : tie.Need-returns-3
-returns-3 c = rw (c .refused2 .ensures) (turned-down (c .before .before .before .before .before .before .before .before .args .plan) (c .before .before .before .before .before .second .ensures) (rw (c .before .before .answer3 .given .1)) (search needs))
+returns-3 c =
+    let start = c .before .before .before .before .before .before .before .before in
+    rw (c .refused2 .ensures)
+    (turned-down (start .args .plan) (start .pre .0) (c .before .before .before .before .before .second .ensures) (rw (c .before .before .answer3 .given .1)) (omega (arith, start .pre .1)))
 
 pub run-second-spec : {M : Type 1} → statement M
 run-second-spec =
@@ -46,6 +60,7 @@ run-second-spec =
     (tie.spec
     second-requires
     enum-known-answer
+    with-second-requires
     add-second-requires
     accepted-requires
     enum-known-answer-2

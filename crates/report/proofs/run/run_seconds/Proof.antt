@@ -4,13 +4,13 @@ use mathlib.Core.Path.{ap}
 use Prim.Native.Nat.{_-_}
 use native.Mathlib.Omega.{arith}
 use borrow.Author.Needs.{needs}
-use Rattle.report.specs.declared.run.Run.{Run}
+use Rattle.report.specs.Running.{keptIn}
 use Rattle.report.proofs.Seconds.{Through, start, onward, stopped, finished}
 use Rattle.report.proofs.run.run_seconds.Statement.{statement}
 use Rattle.report.proofs.run.run_seconds.Tie as tie
 
 abbrev Inv-loop : tie.InvT-loop
-Inv-loop used plan block count out₀ run₀ i₀ out run i = Through plan (run₀ .book) block count out₀ out used run i
+Inv-loop used plan block count out₀ run₀ i₀ out run i = Through plan (keptIn run₀) block count out₀ out used run i
 
 abbrev μ-loop : tie.MeasureT-loop
 μ-loop used plan block count out₀ run₀ i₀ out run i = count - i
@@ -34,7 +34,7 @@ same-length : tie.Need-same-length Inv-loop μ-loop
 same-length c = search needs
 
 returns : tie.Need-returns Inv-loop μ-loop
-returns c = rw (ap (λ (r : Run). r .book) (c .before .before .before .before .before .before .before .before .before .accepted .ensures)) at (stopped (c .before .before .before .before .before .before .before .before .loop .inv) (c .before .before .before .before .before .before .before .loop-test .taken) (c .before .before .before .before .before .before .second .ensures .bytes) (c .before .before .before .before .run-second .ensures) (c .before .before .before .before .before .before .before .before .before .before .before .before .pre .2) (c .enum-told .given .1))
+returns c = rw (ap keptIn (c .before .before .before .before .before .before .before .before .before .accepted .ensures)) at (stopped (c .before .before .before .before .before .before .before .before .loop .inv) (c .before .before .before .before .before .before .before .loop-test .taken) (c .before .before .before .before .before .before .second .ensures .bytes) (c .before .before .before .before .run-second .ensures) (c .before .before .before .before .before .before .before .before .before .before .before .before .pre .2) (c .enum-told .given .1))
 
 enum-told-2 : tie.Need-enum-told-2 Inv-loop μ-loop
 enum-told-2 c = search needs
@@ -52,7 +52,7 @@ same-length-2 : tie.Need-same-length-2 Inv-loop μ-loop
 same-length-2 c = search needs
 
 returns-2 : tie.Need-returns-2 Inv-loop μ-loop
-returns-2 c = rw (ap (λ (r : Run). r .book) (c .before .before .accepted .ensures)) at (finished (c .before .loop .inv) (c .loop-test .left) (c .before .before .before .before .before .pre .2))
+returns-2 c = rw (ap keptIn (c .before .before .accepted .ensures)) at (finished (c .before .loop .inv) (c .loop-test .left) (c .before .before .before .before .before .pre .2))
 
 pub run-seconds-spec : {M : Type 1} → statement M
 run-seconds-spec =

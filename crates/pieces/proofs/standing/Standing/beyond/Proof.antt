@@ -21,7 +21,7 @@ refused-requires : tie.Need-refused-requires
 refused-requires c κs = search needs
 
 returns-3 : tie.Need-returns-3
-returns-3 c = (c .refused .ensures ∙ beyond-some (c .before .before .before .before .before .args .self) (c .before .before .before .before .before .args .bytes .now) (c .before .before .enum-told2 .given .1) (c .before .if1 .left), rw (c .refused .ensures) (record { book = c .before .before .before .before .before .pre .book; few = c .before .before .before .before .before .pre .few }))
+returns-3 c = (c .refused .ensures ∙ beyond-some (c .before .before .before .before .before .args .self) (c .before .before .before .before .before .args .bytes .now) (c .before .before .enum-told2 .given .1) (c .before .if1 .left), rw (c .refused .ensures) (record { kept = c .before .before .before .before .before .pre .kept; few = c .before .before .before .before .before .pre .few }))
 
 pub beyond-spec : {M : Type 1} → statement M
 beyond-spec =

@@ -18,10 +18,10 @@ enum-known-owner : tie.Need-enum-known-owner
 enum-known-owner c = search needs
 
 returns : tie.Need-returns
-returns c = (c .refused .ensures ∙ sym (header-refused (c .before .before .before .before .before .before .before .before .args .self) (c .before .before .before .before .before .before .before .before .args .bytes .now) (c .before .before .number .given .1) (c .before .before .before .before .read-header .ensures)), rw (c .refused .ensures) (record { book = c .before .before .before .before .before .before .before .before .pre .book; few = c .before .before .before .before .before .before .before .before .pre .few }))
+returns c = (c .refused .ensures ∙ sym (header-refused (c .before .before .before .before .before .before .before .before .before .args .self) (c .before .before .before .before .before .before .before .before .before .args .bytes .now) (c .before .before .number .given .1) (c .before .before .before .before .read-header .ensures)), rw (c .refused .ensures) (record { kept = c .before .before .before .before .before .before .before .before .before .pre .kept; few = c .before .before .before .before .before .before .before .before .before .pre .few }))
 
 returns-2 : tie.Need-returns-2
-returns-2 c = (sym (header-taken (c .before .before .before .before .before .before .before .args .self) (c .before .before .before .before .before .before .before .args .bytes .now) (c .before .owner .given .1) (c .before .before .before .read-header .ensures)), record { book = c .before .before .before .before .before .before .before .pre .book; few = few (c .before .before .before .before .before .before .before .args .self) (c .before .before .before .before .before .before .before .args .bytes .now) (c .before .owner .given .1) (c .before .before .before .read-header .ensures) })
+returns-2 c = (sym (header-taken (c .before .before .before .before .before .before .before .before .args .self) (c .before .before .before .before .before .before .before .before .args .bytes .now) (c .before .owner .given .1) (c .before .before .before .read-header .ensures)), record { kept = c .before .before .before .before .before .before .before .before .pre .kept; few = few (c .before .before .before .before .before .before .before .before .args .self) (c .before .before .before .before .before .before .before .before .args .bytes .now) (c .before .owner .given .1) (c .before .before .before .read-header .ensures) })
 
 pub header-spec : {M : Type 1} → statement M
 header-spec =

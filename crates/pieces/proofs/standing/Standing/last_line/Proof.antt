@@ -1,5 +1,5 @@
 -- `pieces::standing::Standing::last_line` meets its contract, by the verdict. Assumes nothing.
-use Rattle.pieces.specs.Pieces.{lastIn}
+use Rattle.pieces.specs.Pieces.{lastLineIn}
 use borrow.Author.Needs.{needs}
 use Rattle.pieces.proofs.standing.Standing.last_line.Statement.{statement}
 use Rattle.pieces.proofs.standing.Standing.last_line.Tie as tie
@@ -14,11 +14,11 @@ enum-known-number : tie.Need-enum-known-number
 enum-known-number c = search needs
 
 returns : tie.Need-returns
-unfolding lastIn
+unfolding lastLineIn
 returns c = rw (← c .before .before .end .ensures, c .enum-told .given .1)
 
 returns-2 : tie.Need-returns-2
-unfolding lastIn
+unfolding lastLineIn
 returns-2 c = rw (← c .before .before .before .end .ensures, c .before .number .given .1)
 
 pub last-line-spec : {M : Type 1} → statement M

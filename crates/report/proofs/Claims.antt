@@ -1,0 +1,30 @@
+-- The claims of specs/Claims.antt: no line where all kinds lie within their bands (`silent`), which is where the error does. Assumes nothing.
+use mathlib.Core.Path.{_≡_}
+use Prim.Native.Nat.{ℕ}
+use lib.IntN.{ℤ}
+use Rattle.record.specs.declared.Record.{Record}
+use Rattle.plant.specs.Seconds as plant
+use Rattle.plant.specs.Rows.{rowAt}
+use Rattle.plant.specs.Claims.{RowHolds}
+use Rattle.book.specs.Seconds.{BookSecond, History}
+use Rattle.book.specs.Refusals.{numberAt, Accepted}
+use Rattle.book.specs.Rows.{unitRowAt, poolRowAt}
+use Rattle.book.proofs.Past.{cleared}
+use Rattle.book.proofs.Holds.{rows-hold}
+use Rattle.line.proofs.Short.{silent}
+use Rattle.report.specs.Claims.{NoLine, NoLines, Claims}
+
+quiet : (h : plant.History) (x : Record) (m w : ℤ) (t letter : ℕ) → RowHolds h x m w → NoLine h x m w t letter (rowAt h x m w)
+quiet h x m w t letter f on =
+    let l = silent .silent t letter (rowAt h x m w) in
+    let i = f .within on in
+    ((λ e. i .0 (l .0 e)), (λ e. l .1 (i .1 e)))
+
+no-line : (h : History) → Accepted h → (s : BookSecond) → numberAt h s ≡ 0 → NoLines h s
+unfolding unitRowAt poolRowAt
+no-line h acc s e =
+    let r = rows-hold h s acc (cleared h s e) in
+    record { unit = quiet _ _ _ _ _ _ (r .unit); a = quiet _ _ _ _ _ _ (r .a); b = quiet _ _ _ _ _ _ (r .b) }
+
+pub claims : Claims
+claims = record { no-line = no-line }

@@ -1,0 +1,37 @@
+-- What the lines of kinds outside their bands say of an accepted second. The proof is `claims` of proofs/Claims.antt.
+use mathlib.Core.Path.{_≡_}
+use mathlib.Core.Logic.{_↔_}
+use mathlib.Core.Bool.{true}
+use mathlib.Core.List.{[]}
+use Prim.Native.Nat.{ℕ, _≤_}
+use Prim.Native.Char.{code}
+use lib.IntN.{ℤ, pos, natAbs}
+use lib.ListN.{length}
+use Rattle.record.specs.declared.Record.{Record}
+use Rattle.record.specs.Record.{recordOf}
+use Rattle.row.specs.declared.Row.{Row}
+use Rattle.sharing.specs.Shares.{someOn}
+use Rattle.sharing.specs.Rows.{kindsOn}
+use Rattle.plant.specs.Seconds as plant
+use Rattle.plant.specs.Claims.{kindList, errorAt, totalAt}
+use Rattle.book.specs.Seconds.{BookSecond, History, unitBytes, pastOf}
+use Rattle.book.specs.Refusals.{numberAt, Accepted}
+use Rattle.book.specs.Rows.{Pool, poolA, poolB, addedTo, unitPoint, unitRowAt, aRowAt, bRowAt}
+use Rattle.line.specs.Short.{shortText}
+
+-- wherever a kind is on, a plant of row r has no line in its second t exactly when its error lies within the summed bands
+abbrev pub NoLine : plant.History → Record → ℤ → ℤ → ℕ → ℕ → Row → Type 0
+NoLine h x m w t letter r =
+    someOn (kindsOn (kindList h x)) ≡ true → (shortText t letter r ≡ []) ↔ (natAbs (errorAt h x m w) ≤ totalAt h x m w)
+
+abbrev pub PoolNoLine : Pool → ℕ → History → BookSecond → Row → Type 0
+PoolNoLine p letter h s r =
+    NoLine (pastOf (p .bytes) h) (recordOf (p .bytes (s .bytes))) (addedTo p s (unitRowAt h s)) (unitPoint (s .bytes)) (length h) letter r
+
+pub record NoLines (h : History) (s : BookSecond) : Type 0 where
+  pub unit : NoLine (pastOf unitBytes h) (recordOf (unitBytes (s .bytes))) (pos 0) (pos 0) (length h) (code "U") (unitRowAt h s)
+  pub a : PoolNoLine poolA (code "A") h s (aRowAt h s)
+  pub b : PoolNoLine poolB (code "B") h s (bRowAt h s)
+
+pub record Claims : Type 0 where
+  pub no-line : (h : History) → Accepted h → (s : BookSecond) → numberAt h s ≡ 0 → NoLines h s

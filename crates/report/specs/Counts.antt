@@ -1,0 +1,36 @@
+-- How often, and by how much, each kind of each plant stood outside its band: sums over the accepted seconds, each second with those accepted
+-- before it.
+use mathlib.Core.List.{[], _∷_}
+use Prim.Native.Nat.{ℕ, _+_}
+use Rattle.row.specs.declared.KindRow.{KindRow}
+use Rattle.row.specs.declared.Row.{Row}
+use Rattle.row.specs.declared.side.KindCounts.{KindCounts}
+use Rattle.row.specs.declared.side.PlantCounts.{PlantCounts}
+use Rattle.row.specs.Side.{sideOf, onceBelow, onceAbove, kwBelow, kwAbove}
+use Rattle.book.specs.Seconds.{BookSecond, History}
+use Rattle.book.specs.Rows.{unitRowAt, aRowAt, bRowAt}
+use Rattle.book.specs.State.{stateOf}
+use Rattle.tally.specs.declared.Tally.{Tally}
+use Rattle.report.specs.Running.{Kept, keep}
+
+abbrev pub addedOver : (History → BookSecond → ℕ) → History → ℕ
+addedOver f [] = 0
+addedOver f (s ∷ h) = addedOver f h + f h s
+
+-- where k gives a kind's figures in a second after its past
+abbrev pub kindCounts : (History → BookSecond → KindRow) → History → KindCounts
+kindCounts k h =
+    record {
+      below = record { seconds = addedOver (λ p s. onceBelow (sideOf (k p s))) h; «kw_seconds» = addedOver (λ p s. kwBelow (sideOf (k p s))) h };
+      above = record { seconds = addedOver (λ p s. onceAbove (sideOf (k p s))) h; «kw_seconds» = addedOver (λ p s. kwAbove (sideOf (k p s))) h };
+    }
+
+abbrev pub plantCounts : (History → BookSecond → Row) → History → PlantCounts
+plantCounts r h = record { fcr = kindCounts (λ p s. r p s .fcr) h; afrr = kindCounts (λ p s. r p s .afrr) h; mfrr = kindCounts (λ p s. r p s .mfrr) h }
+
+unfoldable pub tallyOf : History → Tally
+tallyOf h = record { unit = plantCounts unitRowAt h; a = plantCounts aRowAt h; b = plantCounts bRowAt h }
+
+-- what is kept after the past h
+abbrev pub keptOf : History → Kept
+keptOf h = keep (stateOf h) (tallyOf h)
