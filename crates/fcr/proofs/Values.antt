@@ -3,11 +3,12 @@ use mathlib.Core.Path.{refl}
 use Rattle.numbers.specs.Order.{maxZ}
 use Rattle.power.specs.Inward.{upperKw}
 use Rattle.fcr.specs.Setpoint.{setpointOf}
+use Rattle.fcr.specs.Factor.{weightFactor}
 use Rattle.fcr.specs.Band.{weight, fallen, fallOf, sumTo, limitsAt}
 use Rattle.fcr.specs.Values.{Marked, Values}
 
 pub marked : Marked
-unfolding setpointOf weight fallen fallOf sumTo limitsAt upperKw maxZ
+unfolding setpointOf weightFactor weight fallen fallOf sumTo limitsAt upperKw maxZ
 marked =
     record {
       held-400-at-9 = refl;
@@ -22,7 +23,7 @@ marked =
     }
 
 pub values : Values
-unfolding setpointOf weight fallen fallOf sumTo limitsAt upperKw maxZ
+unfolding setpointOf weightFactor weight fallen fallOf sumTo limitsAt upperKw maxZ
 values =
     record {
       marked = marked;
@@ -31,6 +32,11 @@ values =
       held-400-at-201 = refl;
       held-400-at-minus-201 = refl;
       held-333-at-50 = refl;
+      factor-at-15 = refl;
+      factor-at-16 = refl;
+      factor-at-17 = refl;
+      factor-at-29 = refl;
+      factor-at-30 = refl;
       fall-at-age-28 = refl;
       fall-at-age-29 = refl;
       fall-at-age-30 = refl;

@@ -7,6 +7,7 @@ use lib.ListN.{replicate}
 use Rattle.power.specs.declared.kilowatts.Kw.{Kw}
 use Rattle.power.specs.Units.{kw}
 use Rattle.fcr.specs.Setpoint.{setpointOf}
+use Rattle.fcr.specs.Factor.{weightFactor}
 use Rattle.fcr.specs.Band.{bandAt}
 
 -- the published upper limit less the setpoint, at the setpoint s after the past h
@@ -44,6 +45,12 @@ pub record Values : Type 0 where
   pub held-400-at-201 : setpointOf (pos 400) (pos 201) ≡ negℤ (pos 400)
   pub held-400-at-minus-201 : setpointOf (pos 400) (negℤ (pos 201)) ≡ pos 400
   pub held-333-at-50 : setpointOf (pos 333) (pos 50) ≡ negℤ (pos 83)
+  -- "540 for ages 0 to 15, then 252 at 16, 234 at 17, falling by 18 to 0 at 30" (02, W5)
+  pub factor-at-15 : weightFactor 15 ≡ 540
+  pub factor-at-16 : weightFactor 16 ≡ 252
+  pub factor-at-17 : weightFactor 17 ≡ 234
+  pub factor-at-29 : weightFactor 29 ≡ 18
+  pub factor-at-30 : weightFactor 30 ≡ 0
   -- ".. 20 at 28": 5 % is the larger
   pub fall-at-age-28 : fallTolerance 28 ≡ pos 20
   -- nothing held: the last age that weighs something, and the last one
