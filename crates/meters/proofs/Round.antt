@@ -4,17 +4,17 @@ use Prim.Native.Nat.{ℕ, zero, suc, _+_, _-_, _*_, _/_, _%_, _^_, _≤_, _<_, c
 use native.Mathlib.Nat.{le-trans, le-of-eq, le-of-lt, lt-of-le-of-lt, not-le-of-lt, mul-assoc, mul-comm, mul-left-comm, mul-le-mul, mul-le-mul-right, div-eq-of-lt, mod-eq-of-lt, mod-lt, one-mul}
 use native.Mathlib.Numerals.{add-one}
 use native.Mathlib.Omega.{arith}
-use mathlib.Core.Bool.{Bool, true, false, not, cond}
-use lib.Dec.{T, ltb, isLe, isEq, eqb, leb→le, nleb→lt, eqb→eq, eqb-refl, lit<, lit≤}
+use mathlib.Core.Bool.{Bool, true, false, not}
+use lib.Dec.{T, isLe, isEq, eqb, leb→le, nleb→lt, eqb→eq, eqb-refl, lit<, lit≤}
 use lib.Arith.{lt-of-le-ne}
 use lib.IntN.{pos, negℤ}
 use lib.Pow.{pow-add, pow-pos, pow-mono}
 use lib.Ieee.{nearest}
 use lib.Ieee.Nearest.{closest, closest-same, closest-mono}
 use lib.Signed.{leZ}
-use borrow.Author.Tests.{lt-ltb, le-ltb}
+use borrow.Author.Tests.{lt-ltb}
 use Rattle.numbers.proofs.Parts.{neg-nat}
-use Rattle.numbers.proofs.Test.{flags}
+use Rattle.numbers.proofs.Test.{tests, flags}
 use Rattle.power.specs.Units.{mostDeviation}
 use Rattle.meters.specs.Binary32.{fieldOf, digitsOf, sizeBy, sizeOf, signed, hertz, nearestWhole, inMhz}
 
@@ -38,15 +38,12 @@ module _ (n d : ℕ) where
   -- it is the library's
   pub nearest-is : nearestWhole n d ≡ closest n d
   unfolding nearestWhole
-  nearest-is = go (compare (n % d * 2) d) (compared (n % d * 2) d)
+  nearest-is = sym (go (compare (n % d * 2) d) (compared (n % d * 2) d))
     where
-      by : (t u : Bool) → ltb (n % d * 2) d ≡ t → ltb d (n % d * 2) ≡ u → nearestWhole n d ≡ cond t (n / d) (cond u (n / d + 1) (n / d + n / d % 2))
-      by t u e f = λ i. cond (e i) (n / d) (cond (f i) (n / d + 1) (n / d + n / d % 2))
-
-      go : (o : Ordering) → Compared o (n % d * 2) d → nearestWhole n d ≡ nearest (n / d) o
-      go Ordering·lt h = by true false (lt-ltb _ _ h) (le-ltb _ _ (le-of-lt h))
-      go Ordering·eq h = by false false (le-ltb _ _ (le-of-eq (sym h))) (le-ltb _ _ (le-of-eq h))
-      go Ordering·gt h = by false true (le-ltb _ _ (le-of-lt h)) (lt-ltb _ _ h) ∙ add-one (n / d)
+      go : (o : Ordering) → Compared o (n % d * 2) d → nearest (n / d) o ≡ nearestWhole n d
+      go Ordering·lt h = search tests depth 9
+      go Ordering·eq h = let l = le-of-eq h in let m = le-of-eq (sym h) in search tests depth 9
+      go Ordering·gt h = let l = le-of-lt h in sym (add-one (n / d)) ∙ search tests depth 9
 
   round-zero : n < d → n * 2 < d → nearestWhole n d ≡ 0
   unfolding nearestWhole
