@@ -1,0 +1,47 @@
+-- `choose_meter::records::meter_at` meets its contract. Assumes nothing.
+use borrow.Author.Needs.{needs}
+use Rattle.choose_meter.specs.Records.{meterAt}
+use Rattle.choose_meter.proofs.records.meter_at.Statement.{statement}
+use Rattle.choose_meter.proofs.records.meter_at.Tie as tie
+
+add-read-u32 : tie.Need-add-read-u32
+add-read-u32 c = search needs
+
+read-u32-requires : tie.Need-read-u32-requires
+read-u32-requires c κs = search needs
+
+float-of-requires : tie.Need-float-of-requires
+float-of-requires c κs = search needs
+
+shared-slice-read-reading-of : tie.Need-shared-slice-read-reading-of
+shared-slice-read-reading-of c = search needs
+
+reading-of-requires : tie.Need-reading-of-requires
+reading-of-requires c κs = search needs
+
+add-read-u32-2 : tie.Need-add-read-u32-2
+add-read-u32-2 c = search needs
+
+read-u32-requires-2 : tie.Need-read-u32-requires-2
+read-u32-requires-2 c κs = search needs
+
+float-of-requires-2 : tie.Need-float-of-requires-2
+float-of-requires-2 c κs = search needs
+
+returns : tie.Need-returns
+unfolding meterAt
+returns c = cc
+
+pub meter-at-spec : {M : Type 1} → statement M
+meter-at-spec =
+    tie.close
+    (tie.spec
+    add-read-u32
+    read-u32-requires
+    float-of-requires
+    shared-slice-read-reading-of
+    reading-of-requires
+    add-read-u32-2
+    read-u32-requires-2
+    float-of-requires-2
+    returns)
