@@ -153,10 +153,10 @@ more s t =
     number : (q m : ℕ) → q ≡ length s / recordSize → m ≡ (length (drop (q * recordSize) s ++ t) + 63) / recordSize → (length (s ++ t) + 63) / recordSize ≡ q + m
     number q m e f = omega (arith, length-append s t, length-append (drop (q * recordSize) s) t, length-drop (q * recordSize) s)
 
-pub any-cut : (kept : List ℕ) (ps : List (List ℕ)) → told kept ps ≡ printed (kept ++ joined ps)
+pub any-cut : (begun : List ℕ) (ps : List (List ℕ)) → told begun ps ≡ printed (begun ++ joined ps)
 unfolding told
-any-cut kept [] = ap printed (sym (append-nil kept))
-any-cut kept (p ∷ ps) =
-    ap (λ (l : List ℕ). wholeText (kept ++ p) ++ l) (any-cut (restOf (kept ++ p)) ps)
-    ∙ more (kept ++ p) (joined ps)
-    ∙ ap printed (append-assoc kept p (joined ps))
+any-cut begun [] = ap printed (sym (append-nil begun))
+any-cut begun (p ∷ ps) =
+    ap (λ (l : List ℕ). wholeText (begun ++ p) ++ l) (any-cut (restOf (begun ++ p)) ps)
+    ∙ more (begun ++ p) (joined ps)
+    ∙ ap printed (append-assoc begun p (joined ps))

@@ -1,6 +1,10 @@
 -- `choose_meter::records::meter_at` meets its contract. Assumes nothing.
+use mathlib.Core.Path.{ap, _∙_}
+use lib.ListN.{getD}
+use lib.Ieee.{binary32, ofBits}
+use denote.Ref.{now}
 use borrow.Author.Needs.{needs}
-use Rattle.choose_meter.specs.Records.{meterAt}
+use Rattle.choose_meter.specs.Records.{readingOf, meterAt}
 use Rattle.choose_meter.proofs.records.meter_at.Statement.{statement}
 use Rattle.choose_meter.proofs.records.meter_at.Tie as tie
 
@@ -30,7 +34,14 @@ float-of-requires-2 c κs = search needs
 
 returns : tie.Need-returns
 unfolding meterAt
-returns c = cc
+returns c =
+    let r = c .before .before in
+    let f = r .before .before in
+    let s = f .before .before .before .args in
+    let value = f .float-of .ensures ∙ ap (ofBits binary32) (f .before .read-u32 .ensures) in
+    let accuracy = c .float-of2 .ensures ∙ ap (ofBits binary32) (c .before .read-u322 .ensures) in
+    let reading = r .reading-of .ensures ∙ ap (readingOf (getD (now (s .s)) (s .at) 0)) value in
+    λ i. record { reading = reading i; accuracy = accuracy i }
 
 pub meter-at-spec : {M : Type 1} → statement M
 meter-at-spec =
