@@ -5,27 +5,10 @@ use meters::Reading;
 ghost use mathlib.Core.Path.{_≡_};
 ghost use Prim.Native.Nat.{_+_, _≤_};
 ghost use lib.ListN.{length, take};
-ghost use lib.Ieee.{binary32, ofBits};
 ghost use Rattle.meters.specs.Meters.{mostMeters, says};
 ghost use Rattle.choose_meter.specs.Records.{recordSize, meterSize, readingOf, meterAt, metersIn, saidIn};
 
 pub(crate) const SIZE: usize = 64;
-
-// Of a binary32's bits: the weight of the sign, and the bits of an infinity.
-const SIGN: u32 = 0x8000_0000;
-
-const INFINITY: u32 = 0x7f80_0000;
-
-// The number of any bits: `from_bits` is not defined at those of a NaN.
-fn float_of(bits: u32) -> f32
-    ensures { λ r. ⌜ r ≡ ofBits binary32 bits ⌝ }
-{
-    if bits % SIGN <= INFINITY {
-        f32::from_bits(bits)
-    } else {
-        0.0 / 0.0
-    }
-}
 
 fn reading_of(form: u8, value: f32) -> Reading
     ensures { λ r. ⌜ r ≡ readingOf form value ⌝ }
@@ -43,10 +26,10 @@ fn meter_at(s: &[u8], at: usize) -> Meter
     requires { ⌜ at + meterSize ≤ length (now s) ⌝ }
     ensures { λ r. ⌜ r ≡ meterAt (now (s .entry)) at ⌝ }
 {
-    let value = float_of(codec::read_u32(s, at + 1));
+    let value = meters::of_bits(codec::read_u32(s, at + 1));
     Meter {
         reading: reading_of(s[at], value),
-        accuracy: float_of(codec::read_u32(s, at + 5)),
+        accuracy: meters::of_bits(codec::read_u32(s, at + 5)),
     }
 }
 

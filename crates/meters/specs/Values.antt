@@ -23,13 +23,14 @@ fairDeviation b = fairReading (Deviation (number b))
 abbrev pub mhz : ℕ → ℤ
 mhz b = inMhz (exactBits b)
 
--- meters, by the bits of the deviation and of the accuracy; 1 Hz and the number after it, the smallest binary32 above 0, and 1/1024 Hz
+-- meters, by the bits of the deviation and of the accuracy
 abbrev pub meter : ℕ → ℕ → Meter
 meter d a = record { reading = Deviation (number d); accuracy = number a }
 
 abbrev pub failing : Meter
 failing = record { reading = Failed; accuracy = number 0x3a80_0000 }
 
+-- accuracies: 1 Hz, the binary32 after it, and the smallest above 0
 abbrev one : ℕ
 one = 0x3f80_0000
 

@@ -1,5 +1,6 @@
 // The deviation of a usable reading: in Hz, where nothing is lost, and then in whole mHz.
 use crate::Reading;
+use crate::binary32::SIGN;
 use power::Millihertz;
 ghost use mathlib.Core.Path.{_≡_};
 ghost use Prim.Native.Nat.{_*_, _^_, _≤_, _<_};
@@ -11,9 +12,7 @@ ghost use Rattle.meters.specs.Meters.{fairReading, exactDeviation, LessF
 // The frequency that a deviation is from, in Hz.
 const NOMINAL: f32 = 50.0;
 
-// Of a binary32's bits: the weight of the sign and of the exponent's field.
-const SIGN: u32 = 0x8000_0000;
-
+// Of a binary32's bits: the weight of the exponent's field.
 const FIELD: u32 = 0x0080_0000;
 
 // Two of the exponent's fields: that of 2 ^ -11 Hz, below which a number is less than half a mHz, and the one at which the digits count whole Hz.

@@ -1,6 +1,8 @@
 // Frequency meters with binary32 output (02, W6): which meter of up to four counts, and its deviation in whole mHz.
+mod binary32;
 mod deviation;
 
+use binary32::INFINITY;
 use power::Millihertz;
 ghost use mathlib.Core.Path.{_≡_};
 ghost use Prim.Native.Nat.{_≤_};
@@ -9,6 +11,7 @@ ghost use lib.IntN.{pos, negℤ};
 ghost use lib.ListN.{take};
 ghost use Rattle.meters.specs.Binary32.{finite, hertz};
 ghost use Rattle.meters.specs.Meters.{between, fairReading, fairAccuracy, usable, smaller, ofTwo, counting, mostMeters, countOut, saidAt, says};
+pub use binary32::of_bits;
 
 // The meters that serve a plant at most.
 pub const MOST_METERS: usize = 4;
@@ -37,9 +40,6 @@ const LEAST_FREQUENCY: f32 = 45.0;
 const MOST_FREQUENCY: f32 = 55.0;
 
 const MOST_DEVIATION: f32 = 5.0;
-
-// The bits of an infinity: a larger number has larger bits.
-const INFINITY: u32 = 0x7f80_0000;
 
 // A frequency from 45 to 55 Hz.
 fn is_frequency(f: f32) -> bool

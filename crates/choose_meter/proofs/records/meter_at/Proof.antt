@@ -14,8 +14,8 @@ add-read-u32 c = search needs
 read-u32-requires : tie.Need-read-u32-requires
 read-u32-requires c κs = search needs
 
-float-of-requires : tie.Need-float-of-requires
-float-of-requires c κs = search needs
+of-bits-requires : tie.Need-of-bits-requires
+of-bits-requires c κs = search needs
 
 shared-slice-read-reading-of : tie.Need-shared-slice-read-reading-of
 shared-slice-read-reading-of c = search needs
@@ -29,8 +29,8 @@ add-read-u32-2 c = search needs
 read-u32-requires-2 : tie.Need-read-u32-requires-2
 read-u32-requires-2 c κs = search needs
 
-float-of-requires-2 : tie.Need-float-of-requires-2
-float-of-requires-2 c κs = search needs
+of-bits-requires-2 : tie.Need-of-bits-requires-2
+of-bits-requires-2 c κs = search needs
 
 returns : tie.Need-returns
 unfolding meterAt
@@ -38,8 +38,8 @@ returns c =
     let r = c .before .before in
     let f = r .before .before in
     let s = f .before .before .before .args in
-    let value = f .float-of .ensures ∙ ap (ofBits binary32) (f .before .read-u32 .ensures) in
-    let accuracy = c .float-of2 .ensures ∙ ap (ofBits binary32) (c .before .read-u322 .ensures) in
+    let value = f .of-bits .ensures ∙ ap (ofBits binary32) (f .before .read-u32 .ensures) in
+    let accuracy = c .of-bits2 .ensures ∙ ap (ofBits binary32) (c .before .read-u322 .ensures) in
     let reading = r .reading-of .ensures ∙ ap (readingOf (getD (now (s .s)) (s .at) 0)) value in
     λ i. record { reading = reading i; accuracy = accuracy i }
 
@@ -49,10 +49,10 @@ meter-at-spec =
     (tie.spec
     add-read-u32
     read-u32-requires
-    float-of-requires
+    of-bits-requires
     shared-slice-read-reading-of
     reading-of-requires
     add-read-u32-2
     read-u32-requires-2
-    float-of-requires-2
+    of-bits-requires-2
     returns)

@@ -1,4 +1,4 @@
--- `choose_meter::records::float_of` meets its contract: the bits of a NaN are those above an infinity's. Assumes nothing.
+-- `meters::binary32::of_bits` meets its contract: the bits of a NaN are those above an infinity's. Assumes nothing.
 use mathlib.Core.Path.{_≡_, refl, sym, _∙_, subst}
 use mathlib.Core.Bool.{Bool, true, not}
 use Prim.Native.Nat.{_%_, _^_}
@@ -7,8 +7,8 @@ use lib.Ieee.{Float, nan, inf, fin, binary32, ofBits, isNan, div}
 use lib.Ieee.Bits.{nanBits-is, nanBits-above}
 use borrow.Author.Needs.{needs}
 use borrow.Author.Tests.{lt-ltb, le-ltb}
-use Rattle.choose_meter.proofs.records.float_of.Statement.{statement}
-use Rattle.choose_meter.proofs.records.float_of.Tie as tie
+use Rattle.meters.proofs.binary32.of_bits.Statement.{statement}
+use Rattle.meters.proofs.binary32.of_bits.Tie as tie
 
 only-nan : (x : Float) → isNan x ≡ true → nan ≡ x
 unfolding isNan
@@ -33,5 +33,5 @@ returns-2 c =
     let b = c .before .args .bits in
     nought-by-nought ∙ only-nan (ofBits binary32 b) (sym (nanBits-is binary32 b) ∙ nanBits-above binary32 b ∙ lt-ltb 2139095040 (b % 2 ^ 31) (c .if1 .left))
 
-pub float-of-spec : {M : Type 1} → statement M
-float-of-spec = tie.close (tie.spec float-from-bits-result returns returns-2)
+pub of-bits-spec : {M : Type 1} → statement M
+of-bits-spec = tie.close (tie.spec float-from-bits-result returns returns-2)
