@@ -1,4 +1,4 @@
-//! The other program: written from documents 01, 02 and 004 alone, with the standard library alone.
+//! The other program: written from documents 01, 02, 002 and 004 alone, with the standard library alone.
 //!
 //! It looks at whole windows each second and keeps whole pasts. Powers are whole kW in `i64`; limits are
 //! grains of 1/540 kW in `i64`, so that every division named in document 01 is exact or done where 01 does it.
@@ -10,6 +10,7 @@ pub mod copy;
 pub mod fcr;
 pub mod line;
 pub mod maker;
+pub mod meters;
 pub mod mfrr;
 pub mod plant;
 pub mod power;

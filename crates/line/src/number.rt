@@ -1,5 +1,6 @@
 // Numbers in decimal.
 use power::Kw;
+use power::Millihertz;
 use row::KwSeconds;
 ghost use mathlib.Core.Path.{_≡_};
 ghost use Prim.Native.Nat.{_+_, _/_, _%_, _≤_, _<_};
@@ -46,7 +47,7 @@ fn put_digits(buf: &mut [u8], at: usize, n: u64) -> usize
 }
 
 // A refusal number, or a number of seconds.
-pub(crate) fn put_count(buf: &mut [u8], at: usize, n: u32) -> usize
+pub fn put_count(buf: &mut [u8], at: usize, n: u32) -> usize
     requires { ⌜ at + countWidth ≤ length (now buf) ⌝ }
     ensures { λ r. ⌜ Put countWidth (now (buf .entry)) (now (buf .exit)) at r (digits n) ⌝ }
 {
@@ -102,6 +103,21 @@ pub(crate) fn put_field(buf: &mut [u8], at: usize, k: Kw) -> usize
 {
     let to = codec::put_byte(buf, at, b' ');
     put_number(buf, to, of_kw(k))
+}
+
+fn of_millihertz(f: Millihertz) -> Number
+    ensures { λ r. ⌜ r .0 ≡ f .0 ⌝ }
+{
+    Number(f.0 as i64)
+}
+
+// A space and the number.
+pub fn put_millihertz(buf: &mut [u8], at: usize, f: Millihertz) -> usize
+    requires { ⌜ at + fieldWidth ≤ length (now buf) ⌝ }
+    ensures { λ r. ⌜ Put fieldWidth (now (buf .entry)) (now (buf .exit)) at r (field (f .0)) ⌝ }
+{
+    let to = codec::put_byte(buf, at, b' ');
+    put_number(buf, to, of_millihertz(f))
 }
 
 fn of_sum(v: KwSeconds) -> Number

@@ -1,15 +1,18 @@
 //! `generator SEED [FAMILY]` writes a book to standard output; `generator SEED long [SECONDS]` a long day;
 //! `generator name SEED [FAMILY]` says which family and case that is; `generator families` lists the families;
-//! `generator seeds` says how many seeds in a row make every broken case; `generator short-example` writes the shipped book.
+//! `generator seeds` says how many seeds in a row make every broken case; `generator short-example` writes the shipped book;
+//! `generator meters SEED COUNT` writes records of meters, `generator meter-contents SEED COUNT` says what is among them.
 
 use reference::maker::book_bytes;
 use reference::maker::example;
 use reference::maker::families::{long, make, seeds_for_all, Made, WHOLE};
+use reference::maker::meter_contents::counted;
+use reference::maker::meters::records;
 use std::io::{self, Write};
 use std::process::exit;
 
 const USAGE: &str = "generator SEED [FAMILY [SECONDS]] | generator name SEED [FAMILY] | generator families | \
-    generator seeds | generator short-example";
+    generator seeds | generator short-example | generator meters SEED COUNT | generator meter-contents SEED COUNT";
 
 fn book(arguments: &[String]) -> Result<Made, String> {
     let seed: u64 = arguments.first().and_then(|seed| seed.parse().ok()).ok_or(USAGE)?;
@@ -20,12 +23,28 @@ fn book(arguments: &[String]) -> Result<Made, String> {
     }
 }
 
+fn meters(arguments: &[String]) -> Result<Vec<u8>, String> {
+    let numbers: Result<Vec<u64>, _> = arguments.iter().map(|number| number.parse()).collect();
+    match numbers.as_deref() {
+        Ok(&[seed, count]) => Ok(records(seed, count)),
+        _ => Err(USAGE.to_string()),
+    }
+}
+
+/// A line for each thing that is wanted: how many records have it, and what it is.
+fn contents(records: &[u8]) -> Vec<u8> {
+    let lines = counted(records).into_iter().map(|(name, count)| format!("{} {}\n", count, name));
+    lines.collect::<String>().into_bytes()
+}
+
 fn main() {
     let arguments: Vec<String> = std::env::args().skip(1).collect();
     let answer = match arguments.first().map(String::as_str) {
         Some("families") => Ok((WHOLE.join("\n") + "\nbroken\n").into_bytes()),
         Some("short-example") => Ok(book_bytes(example::OWNER, &example::short_example())),
         Some("seeds") => Ok(format!("{}\n", seeds_for_all()).into_bytes()),
+        Some("meters") => meters(&arguments[1..]),
+        Some("meter-contents") => meters(&arguments[1..]).map(|records| contents(&records)),
         Some("name") => book(&arguments[1..]).map(|made| (made.name + "\n").into_bytes()),
         _ => book(&arguments).map(|made| made.bytes),
     };

@@ -1,8 +1,10 @@
-//! Books by seed, for comparing programs.
+//! Books, and records of meters, by seed, for comparing programs.
 
 pub mod broken;
 pub mod example;
 pub mod families;
+pub mod meter_contents;
+pub mod meters;
 pub mod random;
 pub mod tracks;
 

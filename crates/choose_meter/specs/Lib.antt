@@ -1,0 +1,4 @@
+pub mod Records
+pub mod Printed
+pub mod Claims
+pub mod Values

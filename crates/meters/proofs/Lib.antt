@@ -1,0 +1,12 @@
+pub mod Value
+pub mod Compare
+pub mod Ranges
+pub mod Fifty
+pub mod Round
+pub mod Choice
+pub mod Smallest
+pub mod Bits
+pub mod Rounded
+pub mod Answers
+pub mod Claims
+pub mod Values

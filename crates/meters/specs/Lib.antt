@@ -1,0 +1,4 @@
+pub mod Binary32
+pub mod Meters
+pub mod Claims
+pub mod Values
