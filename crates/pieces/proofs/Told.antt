@@ -24,12 +24,13 @@ use Rattle.report.specs.declared.run.Verdict.the-variants as verdict
 use Rattle.report.specs.Running.{Kept, Ran, blockIn, secondsIn}
 use Rattle.report.specs.Counts.{tallyOf, keptOf}
 use Rattle.report.proofs.Past.{tally-none}
+use Rattle.report.proofs.Kept.{counted}
 use Rattle.pieces.specs.declared.standing.Standing.{Standing}
 use Rattle.pieces.specs.Printed.{Judged, judged, lastText, endText, bookSeconds, printedBy, printed}
 use Rattle.pieces.specs.Pieces.{Went, start, keptBy, withVerdict, afterHeader, headerBy, laterBy, beyondBy, isDue, standingIn, onward, bytesIn, endOf, lastBy, lastLineIn, lastIn}
 use Rattle.pieces.proofs.Bytes.{refused-not-due, stays, beyond, filling, block-more}
 use Rattle.pieces.proofs.Steps.{header-is, later-is}
-use Rattle.pieces.proofs.Judged.{counted, verdictOf, Agrees, agree, then, two-parts}
+use Rattle.pieces.proofs.Judged.{verdictOf, Agrees, agree, then, two-parts}
 
 -- the text of the bytes s from a standing on, with the last line
 abbrev pub closed : Standing → List ℕ → List ℕ

@@ -3,4 +3,5 @@ pub mod Adding
 pub mod Seconds
 pub mod Blocks
 pub mod Past
+pub mod Kept
 pub mod Claims

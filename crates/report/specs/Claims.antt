@@ -1,8 +1,8 @@
--- What the lines of kinds outside their bands say of an accepted second. The proof is `claims` of proofs/Claims.antt.
+-- What the lines of kinds outside their bands say of an accepted second, and what the counts are. The proof is `claims` of proofs/Claims.antt.
 use mathlib.Core.Path.{_≡_}
 use mathlib.Core.Logic.{_↔_}
 use mathlib.Core.Bool.{true}
-use mathlib.Core.List.{[]}
+use mathlib.Core.List.{List, []}
 use Prim.Native.Nat.{ℕ, _≤_}
 use Prim.Native.Char.{code}
 use lib.IntN.{ℤ, pos, natAbs}
@@ -17,7 +17,13 @@ use Rattle.plant.specs.Claims.{kindList, errorAt, totalAt}
 use Rattle.book.specs.Seconds.{BookSecond, History, unitBytes, pastOf}
 use Rattle.book.specs.Refusals.{numberAt, Accepted}
 use Rattle.book.specs.Rows.{Pool, poolA, poolB, addedTo, unitPoint, unitRowAt, aRowAt, bRowAt}
+use Rattle.book.specs.Run.{accepted}
+use Rattle.book.specs.State.{fresh}
+use Rattle.tally.specs.Tally.{zero}
 use Rattle.line.specs.Short.{shortText}
+use Rattle.report.specs.declared.Form.{Form}
+use Rattle.report.specs.Running.{keep}
+use Rattle.report.specs.Counts.{keptOf, keptAfter}
 
 -- wherever a kind is on, a plant of row r has no line in its second t exactly when its error lies within the summed bands
 abbrev pub NoLine : plant.History → Record → ℤ → ℤ → ℕ → ℕ → Row → Type 0
@@ -35,3 +41,5 @@ pub record NoLines (h : History) (s : BookSecond) : Type 0 where
 
 pub record Claims : Type 0 where
   pub no-line : (h : History) → Accepted h → (s : BookSecond) → numberAt h s ≡ 0 → NoLines h s
+  -- for every list of book seconds from a fresh book, refused ones included: the counts are the sums over the accepted ones (`tallyOf`), beside the book
+  pub every-list : (f : Form) (ss : List BookSecond) → keptAfter f (keep fresh zero) ss ≡ keptOf (accepted [] ss)

@@ -1,6 +1,6 @@
 -- How often, and by how much, each kind of each plant stood outside its band: sums over the accepted seconds, each second with those accepted
 -- before it.
-use mathlib.Core.List.{[], _∷_}
+use mathlib.Core.List.{List, [], _∷_}
 use Prim.Native.Nat.{ℕ, _+_}
 use Rattle.row.specs.declared.KindRow.{KindRow}
 use Rattle.row.specs.declared.Row.{Row}
@@ -11,7 +11,8 @@ use Rattle.book.specs.Seconds.{BookSecond, History}
 use Rattle.book.specs.Rows.{unitRowAt, aRowAt, bRowAt}
 use Rattle.book.specs.State.{stateOf}
 use Rattle.tally.specs.declared.Tally.{Tally}
-use Rattle.report.specs.Running.{Kept, keep}
+use Rattle.report.specs.declared.Form.{Form}
+use Rattle.report.specs.Running.{Kept, keep, secondIn}
 
 abbrev pub addedOver : (History → BookSecond → ℕ) → History → ℕ
 addedOver f [] = 0
@@ -34,3 +35,8 @@ tallyOf h = record { unit = plantCounts unitRowAt h; a = plantCounts aRowAt h; b
 -- what is kept after the past h
 abbrev pub keptOf : History → Kept
 keptOf h = keep (stateOf h) (tallyOf h)
+
+-- what is kept after a list of seconds, refused ones included wherever they fall, each with its own owner byte
+unfoldable pub keptAfter : Form → Kept → List BookSecond → Kept
+keptAfter f k [] = k
+keptAfter f k (s ∷ ss) = keptAfter f (secondIn (record { form = f; owner = s .owner; seconds = 0 }) k (s .bytes) .kept) ss

@@ -1,5 +1,5 @@
 // A block of a book run second by second (01, "Blocks and text"): `run_block` says what text its seconds add to a lent buffer, which book they
-// leave, and the verdict, for any bytes. `add` appends one line. A whole book is crate `pieces`.
+// and counts they leave, and the verdict, for any bytes. `add` appends one line, `add_counts` the lines of counts. A whole book is crate `pieces`.
 mod lines;
 mod run;
 
