@@ -19,7 +19,7 @@ use Rattle.row.specs.Fits.{Kind32, Row32, Sums64}
 use Rattle.line.specs.Claims.{Lengths, Examples}
 use Rattle.line.proofs.Digits.{digits-by}
 use Rattle.row.specs.Side.{sideOf}
-use Rattle.line.specs.Short.{outsideText, shortText, sideCountText, kindCountsText}
+use Rattle.line.specs.Short.{outsideText, shortText, sideCountText, kindCountsText, countsText}
 use Rattle.line.proofs.Short.{short-most, counts-most}
 use Rattle.line.proofs.Lengths.{count-most, decimal-64, field-most}
 
@@ -85,7 +85,7 @@ pub lengths : Lengths
 lengths = record { second = second-most; sums = sum-most; refusal = refusal-most; row = row-most; short = short-most; counts = counts-most }
 
 pub examples : Examples
-unfolding secondText plantText sumText named refusalText rowText kindText shortText outsideText sideOf kindCountsText sideCountText field decimal digits digitsIn
+unfolding secondText plantText sumText named refusalText rowText kindText shortText outsideText sideOf countsText kindCountsText sideCountText field decimal digits digitsIn
 examples =
     record {
       full-second = refl;

@@ -19,7 +19,7 @@ use Rattle.row.specs.Fits.{Row32, Sums64}
 use Rattle.line.specs.Text.{ascii, decimal}
 use Rattle.line.specs.Widths.{lineRoom, rowRoom}
 use Rattle.line.specs.Line.{secondText, sumText, refusalText, rowText}
-use Rattle.line.specs.Short.{shortText, kindCountsText, countsText}
+use Rattle.line.specs.Short.{shortText, countsText}
 
 -- the seconds of a count are an unsigned 32-bit number, its kW-seconds a 64-bit one
 pub record Side64 (c : SideCount) : Type 0 where
@@ -60,13 +60,17 @@ actuals f a m o = record { fcr = kind (pos 0) (pos 0) (pos 0) (pos 0) f; afrr = 
 abbrev pub sums : ℤ → ℤ → ℤ → ℤ → Sums
 sums a b o d = record { a = record { 0 = a }; b = record { 0 = b }; «open» = record { 0 = o }; due = record { 0 = d } }
 
+-- counts by their figures
+abbrev pub counted : ℕ → ℕ → ℕ → ℕ → KindCounts
+counted a b c d = record { below = record { seconds = a; «kw_seconds» = b }; above = record { seconds = c; «kw_seconds» = d } }
+
 -- the full case's two lines, a refusal, the order of a row's figures, and the least numbers
 pub record Examples : Type 0 where
   pub full-second : secondText 0 (actuals (negsuc 78) (pos 10) (pos 0) (pos 0)) (actuals (negsuc 78) (pos 0) (pos 0) (pos 0)) (actuals (pos 0) (pos 30) (pos 0) (pos 0)) ≡ ascii "0 U -79 10 0 0 A -79 0 0 0 B 0 30 0 0\n"
   pub full-sum : sumText (sums (negsuc 78) (pos 30) (pos 0) (negsuc 48)) ≡ ascii "sum A -79 B 30 open 0 due -49\n"
   pub refused : refusalText 12 89999 ≡ ascii "refused 12 at 89999\n"
   pub every-figure : rowText 7 (code "U") (record { fcr = kind (pos 1) (pos 2) (pos 3) (pos 4) (pos 5); afrr = kind (pos 6) (pos 7) (pos 8) (pos 9) (pos 10); mfrr = kind (pos 11) (pos 12) (pos 13) (pos 14) (pos 15); «open» = kw (negsuc 15) }) ≡ ascii "7 U 1 2 3 4 5 6 7 8 9 10 11 12 13 14 15 -16\n"
-  pub short : shortText 1020 (code "U") (record { fcr = kind (pos 0) (pos 0) (pos 7) (pos 0) (pos 7); afrr = kind (pos 0) (negsuc 4) (pos 5) (pos 0) (negsuc 11); mfrr = kind (pos 0) (pos 0) (pos 0) (pos 0) (pos 1); «open» = kw (pos 0) }) ≡ ascii "1020 U aFRR below 7\n1020 U mFRR above 1\n"
-  pub counts : kindCountsText (code "U") (ascii " aFRR") (record { below = record { seconds = 300; «kw_seconds» = 153600 }; above = record { seconds = 0; «kw_seconds» = 0 } }) ≡ ascii "U aFRR below 300 153600 above 0 0\n"
+  pub short : shortText 1020 (code "U") (record { fcr = kind (pos 0) (pos 0) (pos 7) (pos 0) (pos 7); afrr = kind (pos 0) (negsuc 4) (pos 5) (pos 0) (negsuc 11); mfrr = kind (pos 0) (negsuc 2) (pos 4) (pos 0) (pos 5); «open» = kw (pos 0) }) ≡ ascii "1020 U aFRR below 7\n1020 U mFRR above 1\n"
+  pub counts : countsText (code "U") (record { fcr = counted 1 2 3 4; afrr = counted 5 6 7 8; mfrr = counted 9 10 11 12 }) ≡ ascii "U FCR below 1 2 above 3 4\nU aFRR below 5 6 above 7 8\nU mFRR below 9 10 above 11 12\n"
   pub least-32 : decimal (negsuc 2147483647) ≡ ascii "-2147483648"
   pub least-64 : decimal (negsuc 9223372036854775807) ≡ ascii "-9223372036854775808"

@@ -54,7 +54,7 @@ abbrev wild : ℕ → Meter
 wild a = meter 0x4100_0000 a
 
 pub record Values : Type 0 where
-  -- 45 and 55 Hz, the numbers next to them, both infinities and two NaNs
+  -- 45 and 55 Hz, the numbers next to them, -50 Hz, both infinities and two NaNs
   pub frequencies :
       map fairFrequency (0x4234_0000 ∷ 0x425c_0000 ∷ 0x4233_ffff ∷ 0x425c_0001 ∷ 0xc248_0000 ∷ 0x7f80_0000 ∷ 0xff80_0000 ∷ 0x7fc0_0000 ∷ 0xffff_ffff ∷ [])
       ≡ true ∷ true ∷ false ∷ false ∷ false ∷ false ∷ false ∷ false ∷ false ∷ []

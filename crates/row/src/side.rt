@@ -31,7 +31,7 @@ pub struct PlantCounts {
     pub mfrr: KindCounts,
 }
 
-// What the larger of two powers has more.
+// By how much the larger of two powers exceeds the other.
 fn excess(larger: Kw, smaller: Kw) -> u32
     requires { ⌜ ltZ (smaller .0) (larger .0) ≡ true ⌝ }
     ensures { λ r. ⌜ r ≡ natAbs (larger .0 -ℤ smaller .0) ⌝ }

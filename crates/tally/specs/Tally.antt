@@ -66,7 +66,7 @@ pub record TallyWithin (t : ℕ) (q : Tally) : Type 0 where
   pub a : PlantWithin t (q .a)
   pub b : PlantWithin t (q .b)
 
--- the counts with a second more, which are those of one second more
+-- the counts with a second more; where they were those of t seconds, they are then those of t + 1
 pub record SideCounted (c : SideCount) (n kw : ℕ) (r : SideCount) : Type 0 where
   pub is : r ≡ sideWith c n kw
   pub grows : (t : ℕ) → SideWithin t c → SideWithin (t + 1) r
