@@ -2,6 +2,7 @@ pub mod Sizes
 pub mod Past
 pub mod Holds
 pub mod Balance
+pub mod Handing
 pub mod Claims
 pub mod Plants
 pub mod Form

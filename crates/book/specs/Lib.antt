@@ -3,6 +3,7 @@ pub mod Refusals
 pub mod Rows
 pub mod Sums
 pub mod State
+pub mod HandOver
 pub mod Run
 pub mod Claims
 pub mod List
