@@ -8,7 +8,7 @@ use lib.ListN.{replicate, set}
 use Rattle.power.specs.Units.{kw}
 use Rattle.row.specs.declared.KindRow.{KindRow}
 use Rattle.row.specs.declared.Row.{Row}
-use Rattle.row.specs.Row.{offRow}
+use Rattle.row.specs.Row.{offRounding, offRow}
 use Rattle.book.specs.declared.BookAnswer.{BookAnswer}
 use Rattle.book.specs.declared.BookAnswer.the-variants.{RefusedBy}
 use Rattle.book.specs.declared.Plant.the-variants.{U, A, B}
@@ -29,10 +29,10 @@ first36 n = set (replicate 36 0) 0 n
 
 -- a row by its actual values and open
 abbrev kindOf : ℤ → KindRow
-kindOf v = record { setpoint = kw (pos 0); band = offRow .band; share = kw (pos 0); actual = kw v }
+kindOf v = record { setpoint = kw (pos 0); band = offRow .band; share = kw (pos 0); actual = kw v; rounding = offRounding }
 
 abbrev pub rowOf : ℤ → ℤ → ℤ → ℤ → Row
-rowOf f a m o = record { fcr = kindOf f; afrr = kindOf a; mfrr = kindOf m; «open» = kw o }
+rowOf f a m o = record { fcr = kindOf f; afrr = kindOf a; mfrr = kindOf m; «open» = kw o; error = kw (pos 0); total = 0 }
 
 abbrev none : Row
 none = rowOf (pos 0) (pos 0) (pos 0) (pos 0)
