@@ -132,7 +132,7 @@ claims ss = subst (λ (k : Book). ListHolds k [] [] ss) fresh-is (list-holds [] 
 
 -- ---- and for every chain of lists and handovers
 
-handed : (c : Closed) (h : History) → handedOver (stateOf c h) ≡ stateOf (h ∷ c) []
+pub handed : (c : Closed) (h : History) → handedOver (stateOf c h) ≡ stateOf (h ∷ c) []
 unfolding stateOf sumsOf
 handed c h =
     λ i. record {
@@ -173,7 +173,7 @@ module _ (c : Closed) (h : History) (a : Accepted c h) where
       go zero = handed c h
       go (suc n) = refl
 
-  next-accepted : Accepted (closedHanded c h) (pastHanded h)
+  pub next-accepted : Accepted (closedHanded c h) (pastHanded h)
   unfolding closedHanded pastHanded Accepted AllClosed
   next-accepted = go (handOverNumber (length h)) refl
     where
@@ -185,7 +185,8 @@ chain-holds : (chain : List (List BookSecond)) (c : Closed) (h : History) → Ac
 chain-holds [] c h a = tt
 chain-holds (ss ∷ chain) c h a =
     let later = accepted c h ss in
-    let all = all-accepted ss c h a in (
+    let all = all-accepted ss c h a in
+    (
       list-holds c h a ss,
       rw (lasts ss c h a) (at-hand-over c later),
       rw (lasts ss c h a, next-book c later all) (chain-holds chain (closedHanded c later) (pastHanded later) (next-accepted c later all)),
