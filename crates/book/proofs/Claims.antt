@@ -22,10 +22,11 @@ use Rattle.book.specs.Sums.{sumA, sumB, sumOpen, sumDue, sumsOf, noSums}
 use Rattle.book.specs.State.{fresh, stateOf, sumsWith, SumsReady}
 use Rattle.book.specs.HandOver.{handOverNumber, handedOver, handOverBy, handOverIn, closedBy, closedHanded, pastBy, pastHanded}
 use Rattle.book.specs.Run.{bookAfter, accepted}
-use Rattle.book.specs.Claims.{AtSecond, EachSecond, Balanced, ListHolds, Claims, AtHandOver, ChainHolds}
+use Rattle.book.specs.Claims.{AtSecond, EachSecond, Balanced, ListHolds, Claims, AtHandOver, ChainHolds, BookClaims}
 use Rattle.book.proofs.Sizes.{sums-none, sums-more, sums-fit}
 use Rattle.book.proofs.Past.{cleared, unit-accepted, still-accepted, over-past}
 use Rattle.book.proofs.Holds.{rows-hold, summed}
+use Rattle.book.proofs.Cut.{cut}
 use Rattle.book.proofs.Balance.{second-balance}
 
 -- ---- the book after a list
@@ -194,3 +195,6 @@ chain-holds (ss ∷ chain) c h a =
 
 pub chains : (chain : List (List BookSecond)) → ChainHolds fresh [] [] chain
 chains chain = subst (λ (k : Book). ChainHolds k [] [] chain) fresh-is (chain-holds chain [] [] none-accepted)
+
+pub book-claims : BookClaims
+book-claims = record { every-list = claims; every-chain = chains; every-cut = λ early late whole a. cut early whole late a }

@@ -5,6 +5,7 @@ use mathlib.Core.Path.{_≡_}
 use mathlib.Core.List.{List, [], _∷_}
 use lib.ListN.{length}
 use Rattle.numbers.specs.Rules.{Rule, refuse, first, differ}
+use Rattle.row.specs.declared.sums.Sums.{Sums}
 use Rattle.mfrr.specs.Signal.{quarterHour}
 use Rattle.plant.specs.State as plant
 use Rattle.book.specs.declared.Book.{Book}
@@ -22,10 +23,13 @@ handOverRules t = refuse 29 (differ (t % quarterHour) 0) ∷ []
 unfoldable pub handOverNumber : ℕ → ℕ
 handOverNumber t = first (handOverRules t)
 
--- the plants' states, and "the sums set to 0"
+-- the plants' states, with the sums q
+abbrev pub openingWith : Book → Sums → Book
+openingWith k q = record { unit = plant.handedOver (k .unit); a = plant.handedOver (k .a); b = plant.handedOver (k .b); sums = q }
+
+-- "and the sums set to 0"
 abbrev pub handedOver : Book → Book
-handedOver k =
-    record { unit = plant.handedOver (k .unit); a = plant.handedOver (k .a); b = plant.handedOver (k .b); sums = noSums }
+handedOver k = openingWith k noSums
 
 -- "and no state is handed over": the closing book stays as it was
 abbrev pub handOverBy : ℕ → Book → HandOver
@@ -55,7 +59,14 @@ pastBy (suc n) h = h
 unfoldable pub pastHanded : History → History
 pastHanded h = pastBy (handOverNumber (length h)) h
 
--- what the handover ensures
+-- what the operations ensure
+
+pub record Opening (k : Book) (q : Sums) (r : Book) : Type 0 where
+  pub is : r ≡ openingWith k q
+  pub unit : plant.Ready (r .unit)
+  pub a : plant.Ready (r .a)
+  pub b : plant.Ready (r .b)
+
 pub record HandedOver (k : Book) (r : HandOver) : Type 0 where
   pub is : r ≡ handOverIn k
   pub number : handOverNumberIn (r .answer) ≡ handOverNumber (k .unit .seconds)

@@ -5,6 +5,7 @@ pub mod Sums
 pub mod State
 pub mod HandOver
 pub mod Run
+pub mod Cut
 pub mod Claims
 pub mod List
 pub mod Values

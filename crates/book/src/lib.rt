@@ -16,11 +16,14 @@ use sums::with_second;
 use unit::added_to;
 use unit::others;
 ghost use mathlib.Core.Path.{_≡_};
+ghost use Prim.Native.Nat.{_%_};
+ghost use lib.Dec.{eqb};
 ghost use lib.ListN.{length};
+ghost use Rattle.mfrr.specs.Signal.{quarterHour};
 ghost use Rattle.record.specs.Record.{size};
 ghost use Rattle.book.specs.Refusals.{formNumber};
 ghost use Rattle.book.specs.Sums.{noSums};
-ghost use Rattle.book.specs.HandOver.{HandedOver};
+ghost use Rattle.book.specs.HandOver.{Opening, HandedOver};
 ghost use Rattle.book.specs.State.{secondOf, fresh, refusedBy, Ready, PlantsStepped, Stepped};
 
 // The plants of a book.
@@ -81,6 +84,13 @@ fn rows(unit: Row, a: Row, b: Row) -> BookAnswer
     BookAnswer::Rows { unit, a, b }
 }
 
+// Whether so many seconds are whole quarter hours.
+fn is_whole(seconds: u32) -> bool
+    ensures { λ r. ⌜ r ≡ eqb (seconds % quarterHour) 0 ⌝ }
+{
+    seconds % mfrr::QUARTER_HOUR == 0
+}
+
 fn no_sums() -> Sums
     ensures { λ r. ⌜ r ≡ noSums ⌝ }
 {
@@ -106,13 +116,27 @@ impl Book {
         }
     }
 
+    // The book that opens with this one's plants, and with the sums given.
+    fn opening(self, sums: Sums) -> Book
+        requires { ⌜ Ready self ⌝ }
+        ensures { λ r. ⌜ Opening self sums r ⌝ }
+    {
+        let kept = sums;
+        Book {
+            unit: self.unit.handed_over(),
+            a: self.a.handed_over(),
+            b: self.b.handed_over(),
+            sums: kept,
+        }
+    }
+
     // Hands the closing book over (02, W7): the next book opens with the plants' states, nothing counted and nothing kept. 29 where the seconds that
     // this one accepted are no multiple of 900.
     pub fn hand_over(self) -> HandOver
         requires { ⌜ Ready self ⌝ }
         ensures { λ r. ⌜ HandedOver self r ⌝ }
     {
-        if self.unit.seconds % mfrr::QUARTER_HOUR != 0 {
+        if !is_whole(self.unit.seconds) {
             return HandOver {
                 answer: HandOverAnswer::Refused(29),
                 book: self,
@@ -120,12 +144,7 @@ impl Book {
         }
         HandOver {
             answer: HandOverAnswer::Opened,
-            book: Book {
-                unit: self.unit.handed_over(),
-                a: self.a.handed_over(),
-                b: self.b.handed_over(),
-                sums: no_sums(),
-            },
+            book: self.opening(no_sums()),
         }
     }
 

@@ -8,7 +8,7 @@ use native.Mathlib.Omega.{arith}
 use lib.ListN.{length, take, drop, length-append, length-drop}
 use lib.Seq.{take-at, drop-at, drop-drop, take-add, length-take-le, take-all, take-append-le, drop-append-le}
 use Rattle.codec.specs.Put.{Put}
-use Rattle.codec.proofs.Puts.{both, loosen, none, kept}
+use Rattle.codec.proofs.Puts.{both, loosen, sized, none, kept}
 use Rattle.choose_meter.specs.Records.{recordSize, saidIn}
 use Rattle.choose_meter.specs.Printed.{lineText, linesOf, printed, wholeText, restOf, told, lineWidth, pieceRecords, pieceRoom, Kept}
 use Rattle.choose_meter.specs.Claims.{joined}
@@ -107,11 +107,8 @@ pub moved :
     Put m z p 0 f (take (n - q) (drop q b)) →
     Put k b e 0 r (take f p) →
     Kept b e q n r
-moved q n b h k f g =
-    record {
-      bytes = front g ∙ front f ∙ part-is q n b h k;
-      number = g .next ∙ zero-add _ ∙ ap length (front f) ∙ part-length q n b h k;
-    }
+moved q n b {r = r} {e = e} h k f g =
+    subst (λ (l : List ℕ). Put (n - q) b e 0 r l) (front f ∙ part-is q n b h k) (sized (le-of-eq (ap length (front f) ∙ part-length q n b h k)) g)
 
 -- it fits the buffer that it comes from
 pub part-fits : (q n : ℕ) (b : List ℕ) {m f : ℕ} {z p : List ℕ} → q ≤ n → n ≤ length b → Put m z p 0 f (take (n - q) (drop q b)) → 0 + length (take f p) ≤ length b

@@ -8,6 +8,6 @@ abbrev pub joined : List (List ℕ) → List ℕ
 joined [] = []
 joined (p ∷ ps) = p ++ joined ps
 
-pub record PrintedClaims : Type 0 where
+pub record Claims : Type 0 where
   -- however the input is cut, the texts one after the other are `printed` of the whole
   pub any-cut : (ps : List (List ℕ)) → told [] ps ≡ printed (joined ps)

@@ -1,6 +1,5 @@
 -- What the program prints: from all the bytes of standard input to all those of standard output, and the same as the bytes come.
 use Prim.Native.Nat.{ℕ, zero, suc, _+_, _*_, _/_, _-_, _<_}
-use mathlib.Core.Path.{_≡_}
 use mathlib.Core.List.{List, [], _∷_, _++_}
 use lib.ListN.{length, take, drop}
 use Rattle.codec.specs.Put.{Put}
@@ -53,13 +52,12 @@ pieceSize = pieceRecords * recordSize
 abbrev pub pieceRoom : ℕ
 pieceRoom = pieceRecords * lineWidth
 
--- the bytes of b from `from` to `end` stand at the front of e, r of them
-pub record Kept (b e : List ℕ) (from end r : ℕ) : Type 0 where
-  pub bytes : take r e ≡ drop from (take end b)
-  pub number : r ≡ end - from
+-- the bytes of b from `from` to `end` are put at its front, r of them
+abbrev pub Kept : List ℕ → List ℕ → ℕ → ℕ → ℕ → Type 0
+Kept b e from end r = Put (end - from) b e 0 r (drop from (take end b))
 
 -- the first n bytes of b are taken: o and p are the buffer of the text before and after, and the bytes after the whole records come to the front
 pub record Takes (b e : List ℕ) (n : ℕ) (o p : List ℕ) (used filled : ℕ) : Type 0 where
   pub text : Put pieceRoom o p 0 used (wholeText (take n b))
-  pub kept : take filled e ≡ restOf (take n b)
+  pub kept : Put recordSize b e 0 filled (restOf (take n b))
   pub short : filled < recordSize

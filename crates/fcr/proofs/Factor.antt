@@ -1,8 +1,8 @@
 -- The weight factor's cases, age by age, are document 01's formula in thirtieths of a kW. Assumes nothing.
 use mathlib.Core.Path.{_≡_, refl, _∙_}
-use mathlib.Core.Bool.{Bool, true, false, _&&_}
+use mathlib.Core.Bool.{Bool, true, false, cond, _&&_}
 use mathlib.Core.List.{List, [], _∷_}
-use Prim.Native.Nat.{ℕ, zero, suc, _*_, _≤_, _<_}
+use Prim.Native.Nat.{ℕ, zero, suc, _*_, _-_, _≤_, _<_}
 use native.Mathlib.Omega.{arith}
 use lib.Dec.{leb, ltb, eqb}
 use borrow.Author.Tests.{lt-leb, leb-true, leb-false, eqb-true, ltb-true, ne-eqb}
@@ -49,14 +49,25 @@ older a h = none a kept figure61 refl h
 
 -- ---- at every age
 
-pub factor-thirtieths : (a : ℕ) → weightFactor a ≡ thirtieths a * perThirtieth
+-- "weight d for a up to 15, then d × (30 - a) / 30": of 1 kW, in thirtieths
+abbrev pub byFormula : ℕ → ℕ
+byFormula a = cond (leb a fullAge) lastAge (lastAge - a)
+
+factor-formula : (a : ℕ) → weightFactor a ≡ byFormula a * perThirtieth
 unfolding weightFactor
-factor-thirtieths a = go (leb a lastAge) refl
+factor-formula a = go (leb a lastAge) refl
   where
-    go : (t : Bool) → leb a lastAge ≡ t → weightFactor a ≡ thirtieths a * perThirtieth
+    go : (t : Bool) → leb a lastAge ≡ t → weightFactor a ≡ byFormula a * perThirtieth
     go true e =
-        eqb-true (weightFactor a) (thirtieths a * perThirtieth)
-        (each kept (λ (k : ℕ). eqb (weightFactor k) (thirtieths k * perThirtieth)) refl a (omega (arith, leb-true a lastAge e)))
+        eqb-true (weightFactor a) (byFormula a * perThirtieth)
+        (each kept (λ (k : ℕ). eqb (weightFactor k) (byFormula k * perThirtieth)) refl a (omega (arith, leb-true a lastAge e)))
     go false e =
         let h = leb-false a lastAge e in
         older a (omega arith) ∙ rw (lt-leb a fullAge (omega arith)) (omega arith)
+
+pub thirtieths-formula : (a : ℕ) → thirtieths a ≡ byFormula a
+thirtieths-formula a = omega (arith, factor-formula a)
+
+-- nothing is cut
+pub factor-thirtieths : (a : ℕ) → weightFactor a ≡ thirtieths a * perThirtieth
+factor-thirtieths a = omega (arith, factor-formula a)

@@ -42,6 +42,7 @@ use Rattle.plant.specs.Run.{PlantSecond, stateAfter, answers, accepted, 
 use Rattle.plant.specs.Claims.{kindList, EveryList, RowHolds, Stuck, callWhileOff, Claims}
 use Rattle.plant.proofs.Past.{Clear, clear, ready, fcr-ranged, afrr-second-fair, afrr-fair, mfrr-accepted, over-bytes}
 use Rattle.plant.proofs.Fresh.{fresh-book}
+use Rattle.plant.proofs.Cut.{cut}
 use Rattle.plant.proofs.TurnedDown.{same-turned-down}
 use Rattle.plant.proofs.QuarterHour.{quarter-hour, fault-no-kind, refuses-record, stays, call-accepted, free-again}
 
@@ -236,6 +237,7 @@ claims =
       lists-after = lists-after;
       fresh-book = fresh-book;
       handed-over = handed-over;
+      cut = cut;
       over-past = λ c h a s m w. over-past c h a s m w;
       row-holds = λ c h a x e m w. row-holds c h a x e m w;
       fits = λ c h a x e. row-fits c h a x e (pos 0) (pos 0) none-added;

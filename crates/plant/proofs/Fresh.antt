@@ -19,7 +19,7 @@ use Rattle.plant.specs.Rows.{kindsWith, kindsAt}
 use Rattle.plant.specs.State.{stateOf}
 use Rattle.plant.specs.Fresh.{freshSetpoints, FreshBook}
 
-stays-put : (x : Record) → movedOn 0 x ≡ x
+pub stays-put : (x : Record) → movedOn 0 x ≡ x
 stays-put x = ap (λ (D : ℕ). withEnd D x) (go (eqb (x .call) 1))
   where
     go : (t : Bool) → cond t (x .«delivery_end» + 0) (x .«delivery_end») ≡ x .«delivery_end»

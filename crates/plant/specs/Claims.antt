@@ -4,7 +4,7 @@ use Prim.Native.Nat.{ℕ, _+_, _%_, _≤_}
 use mathlib.Core.Path.{_≡_}
 use mathlib.Core.Logic.{_↔_, _⊎_}
 use mathlib.Core.Bool.{true, false}
-use mathlib.Core.List.{List, [], _∷_}
+use mathlib.Core.List.{List, [], _∷_, _++_}
 use lib.IntN.{ℤ, pos, natAbs, _+ℤ_}
 use lib.ListN.{length}
 use Rattle.numbers.specs.Bounds.{Within}
@@ -24,6 +24,7 @@ use Rattle.plant.specs.State.{stateOf, handedOver, OverPast, Ready, step
 use Rattle.mfrr.specs.Signal.{quarterHour}
 use Rattle.plant.specs.Values.{inStatus, calling}
 use Rattle.plant.specs.Fresh.{FreshBook}
+use Rattle.plant.specs.Cut.{Cut}
 use Rattle.plant.specs.Run.{PlantSecond, stateAfter, answers, accepted, answersOver}
 
 -- the past that the definitions see is exactly the accepted seconds: of a list that comes after the past h and the closed books c
@@ -88,6 +89,8 @@ pub record Claims : Type 0 where
   pub fresh-book : (h : History) → FreshBook h
   -- the state that is handed over is the one of the next book before its second 0, with this book's seconds as its past
   pub handed-over : (c : Closed) (h : History) → handedOver (stateOf c h) ≡ stateOf (h ∷ c) []
+  -- a list of accepted seconds is cut once, after a multiple of 900: what follows is accepted in the second book too, with the rows of the one book
+  pub cut : (early late : History) → length early % quarterHour ≡ 0 → Accepted [] (late ++ early) → (x : Record) → recordNumberAt [] (late ++ early) x ≡ 0 → Cut early late x
   -- one second at the state that accepted seconds leave
   pub over-past : (c : Closed) (h : History) → Accepted c h → (s : List ℕ) (m w : ℤ) → OverPast c h s m w (stepIn (stateOf c h) s m w)
   pub row-holds : (c : Closed) (h : History) → Accepted c h → (x : Record) → recordNumberAt c h x ≡ 0 → (m w : ℤ) → RowHolds c h x m w

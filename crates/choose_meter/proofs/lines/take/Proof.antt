@@ -1,9 +1,10 @@
 -- `choose_meter::lines::take` meets its contract. Assumes nothing.
-use mathlib.Core.Path.{sym, _∙_}
+use mathlib.Core.Path.{sym}
 use native.Mathlib.Omega.{arith}
 use lib.Seq.{length-take-le}
 use denote.Ref.{now}
 use borrow.Author.Needs.{needs}
+use Rattle.codec.proofs.Puts.{loosen}
 use Rattle.choose_meter.proofs.Laws.{rest-is}
 use Rattle.choose_meter.proofs.lines.take.Statement.{statement}
 use Rattle.choose_meter.proofs.lines.take.Tie as tie
@@ -38,8 +39,8 @@ returns c =
     let s = p .before .before .before .before .before in
     record {
       text = p .put-lines .ensures;
-      kept = k .keep .ensures .bytes ∙ rest-is (s .args .n) (now (s .args .bytes)) (s .pre .0);
-      short = omega (arith, k .keep .ensures .number);
+      kept = loosen (omega arith) (rw (rest-is (s .args .n) (now (s .args .bytes)) (s .pre .0)) at (k .keep .ensures));
+      short = omega (arith, k .keep .ensures .most);
     }
 
 pub take-spec : {M : Type 1} → statement M

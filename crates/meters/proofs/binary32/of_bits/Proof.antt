@@ -2,6 +2,7 @@
 use mathlib.Core.Path.{_≡_, refl, sym, _∙_, subst}
 use mathlib.Core.Bool.{Bool, true, not}
 use Prim.Native.Nat.{_%_, _^_}
+use native.Mathlib.Omega.{arith}
 use lib.Dec.{T}
 use lib.Ieee.{Float, nan, inf, fin, binary32, ofBits, isNan, div}
 use lib.Ieee.Bits.{nanBits-is, nanBits-above}
@@ -23,7 +24,7 @@ nought-by-nought = refl
 float-from-bits-result : tie.Need-float-from-bits-result
 float-from-bits-result c =
     let b = c .before .args .bits in
-    subst (λ (t : Bool). T (not t)) (sym (nanBits-above binary32 b ∙ le-ltb 2139095040 (b % 2 ^ 31) (c .if1 .taken))) tt
+    subst (λ (t : Bool). T (not t)) (sym (nanBits-above binary32 b ∙ le-ltb 2139095040 (b % 2 ^ 31) (omega (arith, c .if1 .taken)))) tt
 
 returns : tie.Need-returns
 returns c = search needs
@@ -31,7 +32,7 @@ returns c = search needs
 returns-2 : tie.Need-returns-2
 returns-2 c =
     let b = c .before .args .bits in
-    nought-by-nought ∙ only-nan (ofBits binary32 b) (sym (nanBits-is binary32 b) ∙ nanBits-above binary32 b ∙ lt-ltb 2139095040 (b % 2 ^ 31) (c .if1 .left))
+    nought-by-nought ∙ only-nan (ofBits binary32 b) (sym (nanBits-is binary32 b) ∙ nanBits-above binary32 b ∙ lt-ltb 2139095040 (b % 2 ^ 31) (omega (arith, c .if1 .left)))
 
 pub of-bits-spec : {M : Type 1} → statement M
 of-bits-spec = tie.close (tie.spec float-from-bits-result returns returns-2)
