@@ -22,10 +22,11 @@ use Rattle.book.specs.Sums.{sumA, sumB, sumOpen, sumDue, sumsOf, noSums}
 use Rattle.book.specs.State.{fresh, stateOf, sumsWith, SumsReady}
 use Rattle.book.specs.HandOver.{handOverNumber, handedOver, handOverBy, handOverIn, closedBy, closedHanded, pastBy, pastHanded}
 use Rattle.book.specs.Run.{bookAfter, accepted}
-use Rattle.book.specs.Claims.{AtSecond, EachSecond, Balanced, ListHolds, Claims, AtHandOver, ChainHolds}
+use Rattle.book.specs.Claims.{AtSecond, EachSecond, Balanced, ListHolds, Claims, AtHandOver, ChainHolds, BookClaims}
 use Rattle.book.proofs.Sizes.{sums-none, sums-more, sums-fit}
 use Rattle.book.proofs.Past.{cleared, unit-accepted, still-accepted, over-past}
 use Rattle.book.proofs.Holds.{rows-hold, summed}
+use Rattle.book.proofs.Cut.{cut}
 use Rattle.book.proofs.Balance.{second-balance}
 
 -- ---- the book after a list
@@ -132,7 +133,7 @@ claims ss = subst (λ (k : Book). ListHolds k [] [] ss) fresh-is (list-holds [] 
 
 -- ---- and for every chain of lists and handovers
 
-handed : (c : Closed) (h : History) → handedOver (stateOf c h) ≡ stateOf (h ∷ c) []
+pub handed : (c : Closed) (h : History) → handedOver (stateOf c h) ≡ stateOf (h ∷ c) []
 unfolding stateOf sumsOf
 handed c h =
     λ i. record {
@@ -173,7 +174,7 @@ module _ (c : Closed) (h : History) (a : Accepted c h) where
       go zero = handed c h
       go (suc n) = refl
 
-  next-accepted : Accepted (closedHanded c h) (pastHanded h)
+  pub next-accepted : Accepted (closedHanded c h) (pastHanded h)
   unfolding closedHanded pastHanded Accepted AllClosed
   next-accepted = go (handOverNumber (length h)) refl
     where
@@ -185,7 +186,8 @@ chain-holds : (chain : List (List BookSecond)) (c : Closed) (h : History) → Ac
 chain-holds [] c h a = tt
 chain-holds (ss ∷ chain) c h a =
     let later = accepted c h ss in
-    let all = all-accepted ss c h a in (
+    let all = all-accepted ss c h a in
+    (
       list-holds c h a ss,
       rw (lasts ss c h a) (at-hand-over c later),
       rw (lasts ss c h a, next-book c later all) (chain-holds chain (closedHanded c later) (pastHanded later) (next-accepted c later all)),
@@ -193,3 +195,6 @@ chain-holds (ss ∷ chain) c h a =
 
 pub chains : (chain : List (List BookSecond)) → ChainHolds fresh [] [] chain
 chains chain = subst (λ (k : Book). ChainHolds k [] [] chain) fresh-is (chain-holds chain [] [] none-accepted)
+
+pub book-claims : BookClaims
+book-claims = record { every-list = claims; every-chain = chains; every-cut = λ early late whole a. cut early whole late a }

@@ -1,7 +1,7 @@
--- Demand 3 whole, as one claim about every list of book seconds from a fresh book, and about every chain of lists and handovers. The proofs are
--- `claims` and `chains` of proofs/Claims.antt.
+-- Demand 3 whole, as one claim about every list of book seconds from a fresh book, and about every chain of lists and handovers; and a list cut once.
+-- The proof is `book-claims` of proofs/Claims.antt.
 use mathlib.Core.Path.{_≡_}
-use mathlib.Core.List.{List, [], _∷_}
+use mathlib.Core.List.{List, [], _∷_, _++_}
 use Prim.Native.Nat.{_%_}
 use lib.IntN.{pos, _+ℤ_}
 use lib.ListN.{length}
@@ -19,6 +19,7 @@ use Rattle.book.specs.Sums.{sumA, sumB, sumOpen, sumDue}
 use Rattle.book.specs.HandOver.{handOverIn, closedHanded, pastHanded}
 use Rattle.book.specs.State.{fresh, stateOf, OverPast, stepIn}
 use Rattle.book.specs.Run.{bookAfter, accepted}
+use Rattle.book.specs.Cut.{Cut}
 
 -- what holds of a pool's row in second s after the past h and the closed books c
 abbrev pub PoolHolds : Pool → Closed → History → BookSecond → Type 0
@@ -91,3 +92,12 @@ ChainHolds k c h (ss ∷ chain) =
     ListHolds k c h ss
     × AtHandOver (bookAfter k ss) c (accepted c h ss)
     × ChainHolds (handOverIn (bookAfter k ss) .book) (closedHanded c (accepted c h ss)) (pastHanded (accepted c h ss)) chain
+
+-- ---- all of it
+
+pub record BookClaims : Type 0 where
+  pub every-list : (ss : List BookSecond) → Claims ss
+  -- from a fresh book
+  pub every-chain : (chain : List (List BookSecond)) → ChainHolds fresh [] [] chain
+  -- "Say a list of accepted seconds .. is cut once, after a multiple of 900": whatever its owner bytes; that it has at most 90,000 follows from 1
+  pub every-cut : (early late : History) → length early % quarterHour ≡ 0 → Accepted [] (late ++ early) → Cut early late

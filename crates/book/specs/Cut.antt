@@ -1,5 +1,5 @@
 -- A list of accepted seconds cut once (02, W7): "the two books' rows, with call times moved likewise, are those of the one book, and their sums add up
--- to its sums." The proof is `cut` of proofs/Cut.antt.
+-- to its sums." It is claimed in `BookClaims` of specs/Claims.antt.
 use Prim.Native.Nat.{ℕ}
 use mathlib.Core.Path.{_≡_}
 use mathlib.Core.List.{List, [], _∷_, _++_, map}

@@ -121,11 +121,12 @@ impl Book {
         requires { ⌜ Ready self ⌝ }
         ensures { λ r. ⌜ Opening self sums r ⌝ }
     {
+        let kept = sums;
         Book {
             unit: self.unit.handed_over(),
             a: self.a.handed_over(),
             b: self.b.handed_over(),
-            sums,
+            sums: kept,
         }
     }
 

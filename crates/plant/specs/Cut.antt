@@ -1,5 +1,5 @@
 -- A list of accepted seconds cut once (02, W7): `early` and then `late`, both newest first. In the second book the delivery ends are moved back by
--- the first one's length. The proof is `cut` of proofs/Cut.antt.
+-- the first one's length. It is claimed in specs/Claims.antt.
 use mathlib.Core.Path.{_≡_}
 use mathlib.Core.List.{List, [], _∷_, _++_, map}
 use lib.IntN.{ℤ}
