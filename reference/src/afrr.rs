@@ -2,7 +2,8 @@
 
 use crate::power::{five_percent, Limits, GRAINS};
 
-/// Lowest and highest of s(first) to s(last). `setpoints[j]` is that of second j, and before second 0 all are 0.
+/// Lowest and highest of s(first) to s(last). `setpoints[j]` is that of second j, counted from the first closed book on, and
+/// before second 0 all are 0.
 fn lowest_and_highest(setpoints: &[i64], first: i64, last: i64) -> (i64, i64) {
     if last < 0 {
         return (0, 0);
@@ -33,8 +34,8 @@ pub fn held(s: i64, up: i64, down: i64) -> i64 {
     }
 }
 
-/// The limits at the last second of `setpoints`, which holds those of all seconds from 0 on; `last` has the
-/// carried limits of the second before, 0 and 0 before second 0.
+/// The limits at the last second of `setpoints`, which holds those of all seconds, closed books' first; `last` has the
+/// carried limits of the second before, 0 and 0 before the first.
 pub fn limits(setpoints: &[i64], last: Limits, up: i64, down: i64) -> Limits {
     let now = setpoints.len() as i64 - 1;
     let s = setpoints[now as usize];

@@ -53,6 +53,25 @@ fn actuals(row: &Row) -> i64 {
 }
 
 impl Book {
+    /// The book's length: the seconds accepted so far, without those of closed books.
+    pub fn seconds(&self) -> usize {
+        self.unit.seconds()
+    }
+
+    /// The next book, opened with the states that this one closes with, its count and its sums 0; or 29 "when the closing book's
+    /// length isn't a multiple of 900". This one stays as it was.
+    pub fn hand_over(&self) -> Result<Book, u8> {
+        if self.seconds() % 900 != 0 {
+            return Err(29);
+        }
+        Ok(Book {
+            unit: self.unit.handed_over(),
+            a: self.a.handed_over(),
+            b: self.b.handed_over(),
+            sums: Sums::default(),
+        })
+    }
+
     /// The rows of U, A and B, or a refusal that changes none of them.
     pub fn second(&mut self, owner: u8, bytes: &[u8]) -> Result<[Row; 3], Refusal> {
         if bytes.len() != LENGTH {

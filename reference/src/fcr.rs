@@ -25,7 +25,7 @@ pub fn weight(size: i64, age: i64) -> i64 {
     }
 }
 
-/// The limits at the last second of `setpoints`, which holds those of all seconds from 0 on.
+/// The limits at the last second of `setpoints`, which holds those of all seconds, closed books' first.
 pub fn limits(setpoints: &[i64], held: i64) -> Limits {
     let now = setpoints.len() as i64 - 1;
     let s = setpoint_at(setpoints, now);

@@ -7,6 +7,7 @@ pub mod afrr;
 pub mod block;
 pub mod book;
 pub mod copy;
+pub mod cut;
 pub mod fcr;
 pub mod line;
 pub mod maker;

@@ -134,6 +134,23 @@ impl Signal {
         })
     }
 
+    /// The same signal in the seconds of a book that begins `by` seconds later.
+    pub fn moved_back(&self, by: i64) -> Signal {
+        let call = |call: Call| Call {
+            at: call.at - by,
+            end: call.end - by,
+            ..call
+        };
+        let leftover = |leftover: &Leftover| Leftover {
+            last: leftover.last - by,
+            ..*leftover
+        };
+        Signal {
+            call: self.call.map(call),
+            leftovers: self.leftovers.iter().map(leftover).collect(),
+        }
+    }
+
     /// "The band spans s, the running call and all leftovers."
     pub fn limits(&self, now: i64) -> Limits {
         let s = self.setpoint(now) * GRAINS;

@@ -27,9 +27,12 @@ pub struct Row {
 pub const KINDS: u8 = 7;
 pub const FAULT: u8 = 8;
 
-/// A plant's past: its last status, the setpoints of all seconds from 0 on, aFRR's carried limits, mFRR's signal.
+/// A plant's past: its last status, the setpoints of all seconds, those of closed books first, aFRR's carried limits, and
+/// mFRR's signal, whose times are in the seconds of the plant's own book.
 #[derive(Clone, Debug, Default, PartialEq)]
 pub struct Plant {
+    /// How many seconds of the past are those of closed books.
+    pub closed: usize,
     pub status: u8,
     pub fcr: Vec<i64>,
     pub afrr: Vec<i64>,
@@ -52,8 +55,22 @@ fn outside(value: i64, lowest: i64, highest: i64) -> bool {
 }
 
 impl Plant {
+    /// Seconds accepted so far in the plant's own book; t is this number.
     pub fn seconds(&self) -> usize {
-        self.fcr.len()
+        self.fcr.len() - self.closed
+    }
+
+    /// The state that opens the next book: "setpoints, limits, status, calls and leftovers, with times moved back by the
+    /// closed book's length". Its past are the closed books' seconds; its own count starts at 0.
+    pub fn handed_over(&self) -> Plant {
+        Plant {
+            closed: self.fcr.len(),
+            status: self.status,
+            fcr: self.fcr.clone(),
+            afrr: self.afrr.clone(),
+            afrr_limits: self.afrr_limits,
+            mfrr: self.mfrr.moved_back(self.seconds() as i64),
+        }
     }
 
     /// "Source document 002 lets pool status change at multiples of 900 seconds only, except after a technical fault":

@@ -36,7 +36,8 @@ pub fn one_point_two(power: i64) -> i64 {
     power * (GRAINS * 6 / 5)
 }
 
-/// A setpoint of a past second. `setpoints[j]` is that of second j; "before second 0 all setpoints ... are 0".
+/// A setpoint of a past second. `setpoints[j]` is that of second j, counted from the first closed book on; "before second 0
+/// all setpoints ... are 0".
 pub fn setpoint_at(setpoints: &[i64], second: i64) -> i64 {
     if second < 0 {
         0

@@ -1,7 +1,7 @@
 //! The program: a book from its input, lines to its output.
 
 use crate::block::{self, read_block, read_header};
-use crate::book::{self, Book};
+use crate::book::{self, Book, Refusal};
 use crate::line::{refusal_line, sum_line};
 use crate::plant::Row;
 use std::io::{self, Read, Write};
@@ -14,7 +14,7 @@ pub fn next_bytes(input: &mut impl Read, most: usize) -> io::Result<Vec<u8>> {
 }
 
 /// What ends a book's output before its sum line.
-enum Stop {
+pub enum Stop {
     Refused(u8),
     Failed(io::Error),
 }
@@ -22,6 +22,12 @@ enum Stop {
 impl From<u8> for Stop {
     fn from(number: u8) -> Stop {
         Stop::Refused(number)
+    }
+}
+
+impl From<Refusal> for Stop {
+    fn from(refusal: Refusal) -> Stop {
+        Stop::Refused(refusal.number)
     }
 }
 
@@ -46,12 +52,10 @@ impl<F: Fn(usize, &[Row; 3]) -> String> Form for F {
     }
 }
 
-fn run_seconds(
+/// Gives `judge` the owner and the bytes of each second in turn. A block is wholly read before its first second is judged.
+pub fn for_each_second(
     input: &mut impl Read,
-    output: &mut impl Write,
-    form: &mut impl Form,
-    book: &mut Book,
-    accepted: &mut usize,
+    mut judge: impl FnMut(u8, &[u8]) -> Result<(), Stop>,
 ) -> Result<(), Stop> {
     let header = read_header(&next_bytes(input, block::LENGTH)?)?;
     let blocks = (header.seconds + 3) / 4;
@@ -59,9 +63,7 @@ fn run_seconds(
         let bytes = next_bytes(input, block::LENGTH)?;
         let seconds = read_block(&bytes, header.seconds, number)?;
         for second in seconds.chunks(book::LENGTH) {
-            let rows = book.second(header.owner, second).map_err(|refusal| refusal.number)?;
-            output.write_all(form.of_second(*accepted, &rows).as_bytes())?;
-            *accepted += 1;
+            judge(header.owner, second)?;
         }
     }
     if !next_bytes(input, 1)?.is_empty() {
@@ -70,15 +72,25 @@ fn run_seconds(
     Ok(())
 }
 
+/// The sum line, or the refusal with the seconds that the book has accepted so far.
+pub fn last_line(ended: Result<(), Stop>, book: &Book) -> io::Result<String> {
+    match ended {
+        Ok(()) => Ok(sum_line(&book.sums)),
+        Err(Stop::Refused(number)) => Ok(refusal_line(number, book.seconds())),
+        Err(Stop::Failed(error)) => Err(error),
+    }
+}
+
 /// Reads a book and prints it in a form; the last line is the sum line or the refusal.
 pub fn run(input: &mut impl Read, output: &mut impl Write, mut form: impl Form) -> io::Result<()> {
     let mut book = Book::default();
-    let mut accepted = 0;
-    let last = match run_seconds(input, output, &mut form, &mut book, &mut accepted) {
-        Ok(()) => sum_line(&book.sums),
-        Err(Stop::Refused(number)) => refusal_line(number, accepted),
-        Err(Stop::Failed(error)) => return Err(error),
-    };
+    let ended = for_each_second(input, |owner, bytes| {
+        let second = book.seconds();
+        let rows = book.second(owner, bytes)?;
+        output.write_all(form.of_second(second, &rows).as_bytes())?;
+        Ok(())
+    });
+    let last = last_line(ended, &book)?;
     output.write_all(form.before_last().as_bytes())?;
     output.write_all(last.as_bytes())?;
     output.flush()

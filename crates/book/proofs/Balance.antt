@@ -10,7 +10,7 @@ use Rattle.row.specs.declared.KindRow.{KindRow}
 use Rattle.row.specs.declared.Row.{Row}
 use Rattle.record.specs.declared.Record.{Record}
 use Rattle.plant.specs.Rows.{sharedDifference}
-use Rattle.book.specs.Seconds.{BookSecond, History, unitBytes, aBytes, bBytes, difference, dueOf}
+use Rattle.book.specs.Seconds.{BookSecond, History, Closed, unitBytes, aBytes, bBytes, difference, dueOf}
 use Rattle.book.specs.Refusals.{Accepted}
 use Rattle.book.specs.Rows.{valueIf, valuesOf, others, soldByA, soldByB, unitRowAt, poolRowAt, aRowAt, bRowAt}
 use Rattle.book.specs.Sums.{actualsOf, openOf}
@@ -120,15 +120,15 @@ three-plants u a b x y z v t p q r s =
     ∙ (λ i. (ap (λ (n : ℤ). n +ℤ u .«open» .0) p ∙ q ∙ unit-plain (x .measured .0) (x .«working_point» .0)) i +ℤ (difference y +ℤ difference z))
 
 pub second-balance :
-    (h : History) (s : BookSecond) →
-    Accepted h →
-    Cleared h s →
-    actualsOf (aRowAt h s) +ℤ actualsOf (bRowAt h s) +ℤ openOf (unitRowAt h s) (aRowAt h s) (bRowAt h s) ≡ dueOf (s .bytes)
+    (c : Closed) (h : History) (s : BookSecond) →
+    Accepted c h →
+    Cleared c h s →
+    actualsOf (aRowAt c h s) +ℤ actualsOf (bRowAt c h s) +ℤ openOf (unitRowAt c h s) (aRowAt c h s) (bRowAt c h s) ≡ dueOf (s .bytes)
 unfolding dueOf unitRowAt poolRowAt
-second-balance h s a c =
-    let r = rows-hold h s a c in
-    let v = valuesOf (soldByA (s .owner)) (unitRowAt h s) in
-    let o = valuesOf (soldByB (s .owner)) (unitRowAt h s) in
-    three-plants (unitRowAt h s) (aRowAt h s) (bRowAt h s)
+second-balance c h s a e =
+    let r = rows-hold c h s a e in
+    let v = valuesOf (soldByA (s .owner)) (unitRowAt c h s) in
+    let o = valuesOf (soldByB (s .owner)) (unitRowAt c h s) in
+    three-plants (unitRowAt c h s) (aRowAt c h s) (bRowAt c h s)
     (recordOf (unitBytes (s .bytes))) (recordOf (aBytes (s .bytes))) (recordOf (bBytes (s .bytes)))
-    v o (both (bitsOf (s .owner)) (unitRowAt h s)) (r .unit .balance) (r .a .balance) (r .b .balance)
+    v o (both (bitsOf (s .owner)) (unitRowAt c h s)) (r .unit .balance) (r .a .balance) (r .b .balance)

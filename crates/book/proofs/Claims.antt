@@ -1,36 +1,45 @@
 -- Demand 3: every list of book seconds. Assumes nothing.
 use mathlib.Core.Path.{_≡_, refl, sym, ap, _∙_, subst}
 use mathlib.Core.List.{List, [], _∷_}
-use Prim.Native.Nat.{ℕ, zero, suc, _≤_}
+use mathlib.Core.Bool.{Bool, true, false, not, cond}
+use Prim.Native.Nat.{ℕ, zero, suc, _%_, _≤_}
 use native.Mathlib.Numerals.{add-one}
+use native.Mathlib.Omega.{arith}
+use borrow.Author.Tests.{eq-eqb, ne-eqb, eqb-true}
+use lib.Dec.{eqb}
 use lib.IntN.{ℤ, _+ℤ_, +ℤ-assoc, +ℤ-comm}
 use lib.ListN.{length, length-map}
 use Rattle.record.specs.Record.{mostSeconds}
+use Rattle.mfrr.specs.Signal.{quarterHour}
+use Rattle.plant.specs.State as plant-state
 use Rattle.plant.proofs.Past as plant
+use Rattle.plant.proofs.Claims as plant-claims
 use Rattle.book.specs.declared.Book.{Book}
-use Rattle.book.specs.Seconds.{BookSecond, History, unitBytes, pastOf}
-use Rattle.book.specs.Refusals.{numberAt, Accepted, grownBy, grown}
+use Rattle.book.specs.Seconds.{BookSecond, History, Closed, unitBytes, aBytes, bBytes, pastOf, closedOf}
+use Rattle.book.specs.Refusals.{numberAt, AllClosed, Accepted, grownBy, grown}
 use Rattle.book.specs.Rows.{unitRowAt, aRowAt, bRowAt, answerAt}
-use Rattle.book.specs.Sums.{sumA, sumB, sumOpen, sumDue, sumsOf}
+use Rattle.book.specs.Sums.{sumA, sumB, sumOpen, sumDue, sumsOf, noSums}
 use Rattle.book.specs.State.{fresh, stateOf, sumsWith, SumsReady}
+use Rattle.book.specs.HandOver.{handOverNumber, handedOver, handOverBy, handOverIn, closedBy, closedHanded, pastBy, pastHanded}
 use Rattle.book.specs.Run.{bookAfter, accepted}
-use Rattle.book.specs.Claims.{AtSecond, EachSecond, Balanced, Claims}
+use Rattle.book.specs.Claims.{AtSecond, EachSecond, Balanced, ListHolds, Claims, AtHandOver, ChainHolds, BookClaims}
 use Rattle.book.proofs.Sizes.{sums-none, sums-more, sums-fit}
 use Rattle.book.proofs.Past.{cleared, unit-accepted, still-accepted, over-past}
 use Rattle.book.proofs.Holds.{rows-hold, summed}
+use Rattle.book.proofs.Cut.{cut}
 use Rattle.book.proofs.Balance.{second-balance}
 
 -- ---- the book after a list
 
-lasts : (ss : List BookSecond) (h : History) → Accepted h → bookAfter (stateOf h) ss ≡ stateOf (accepted h ss)
+lasts : (ss : List BookSecond) (c : Closed) (h : History) → Accepted c h → bookAfter (stateOf c h) ss ≡ stateOf c (accepted c h ss)
 unfolding bookAfter accepted
-lasts [] h a = refl
-lasts (s ∷ ss) h a = let o = over-past h a s in rw (o .book) (lasts ss (grown h s) (o .stays))
+lasts [] c h a = refl
+lasts (s ∷ ss) c h a = let o = over-past c h a s in rw (o .book) (lasts ss c (grown c h s) (o .stays))
 
-all-accepted : (ss : List BookSecond) (h : History) → Accepted h → Accepted (accepted h ss)
+all-accepted : (ss : List BookSecond) (c : Closed) (h : History) → Accepted c h → Accepted c (accepted c h ss)
 unfolding accepted
-all-accepted [] h a = a
-all-accepted (s ∷ ss) h a = all-accepted ss (grown h s) (still-accepted h a s)
+all-accepted [] c h a = a
+all-accepted (s ∷ ss) c h a = all-accepted ss c (grown c h s) (still-accepted c h a s)
 
 -- ---- the balance
 
@@ -40,82 +49,151 @@ six a b c A B C = simp (+ℤ-assoc, left)
     left : (x y z : ℤ) → x +ℤ (y +ℤ z) ≡ y +ℤ (x +ℤ z)
     left x y z = sym (+ℤ-assoc x y z) ∙ ap (λ (n : ℤ). n +ℤ z) (+ℤ-comm x y) ∙ +ℤ-assoc y x z
 
-balance : (h : History) → Accepted h → sumA h +ℤ sumB h +ℤ sumOpen h ≡ sumDue h
+balance : (c : Closed) (h : History) → Accepted c h → sumA c h +ℤ sumB c h +ℤ sumOpen c h ≡ sumDue h
 unfolding Accepted
-balance [] a = refl
-balance (s ∷ h) a =
-    six _ _ _ (sumA h) (sumB h) (sumOpen h) ∙ (λ i. balance h (a .1) i +ℤ second-balance h s (a .1) (cleared h s (a .0)) i)
+balance c [] a = refl
+balance c (s ∷ h) a =
+    six _ _ _ (sumA c h) (sumB c h) (sumOpen c h) ∙ (λ i. balance c h (a .1) i +ℤ second-balance c h s (a .1) (cleared c h s (a .0)) i)
 
 -- ---- the sums fit
 
-sums-ready : (h : History) → Accepted h → SumsReady (length h) (sumsOf h)
+sums-ready : (c : Closed) (h : History) → Accepted c h → SumsReady (length h) (sumsOf c h)
 unfolding Accepted sumsOf sumsWith
-sums-ready [] a = sums-none 0
-sums-ready (s ∷ h) a =
-    subst (λ (n : ℕ). SumsReady n (sumsOf (s ∷ h))) (add-one (length h))
-    (sums-more (length h) (sumsOf h) (unitRowAt h s) (aRowAt h s) (bRowAt h s) _ (sums-ready h (a .1)) (summed h s (a .1) (cleared h s (a .0))))
+sums-ready c [] a = sums-none 0
+sums-ready c (s ∷ h) a =
+    subst (λ (n : ℕ). SumsReady n (sumsOf c (s ∷ h))) (add-one (length h))
+    (sums-more (length h) (sumsOf c h) (unitRowAt c h s) (aRowAt c h s) (bRowAt c h s) _ (sums-ready c h (a .1)) (summed c h s (a .1) (cleared c h s (a .0))))
 
-counted : (h : History) → Accepted h → length h ≤ mostSeconds
-counted h a = subst (λ (n : ℕ). n ≤ mostSeconds) (length-map h _) (plant.counted (pastOf unitBytes h) (unit-accepted h a))
+counted : (c : Closed) (h : History) → Accepted c h → length h ≤ mostSeconds
+counted c h a = subst (λ (n : ℕ). n ≤ mostSeconds) (length-map h _) (plant.counted (closedOf unitBytes c) (pastOf unitBytes h) (unit-accepted c h a))
 
 -- ---- every second
 
-grown-same : (h : History) (s : BookSecond) → (numberAt h s ≡ 0 → ⊥) → grown h s ≡ h
+grown-same : (c : Closed) (h : History) (s : BookSecond) → (numberAt c h s ≡ 0 → ⊥) → grown c h s ≡ h
 unfolding grown
-grown-same h s n = go (numberAt h s) n
+grown-same c h s n = go (numberAt c h s) n
   where
     go : (m : ℕ) → (m ≡ 0 → ⊥) → grownBy m s h ≡ h
     go zero q = absurd (q refl)
     go (suc m) q = refl
 
-at-second : (h : History) → Accepted h → (s : BookSecond) → AtSecond (stateOf h) h s
+at-second : (c : Closed) (h : History) → Accepted c h → (s : BookSecond) → AtSecond (stateOf c h) c h s
 unfolding answerAt
-at-second h a s =
-    let o = over-past h a s in
+at-second c h a s =
+    let o = over-past c h a s in
     record {
       past = refl;
       over = o;
-      accepted-rows = λ e. let c = cleared h s e in o .answer ∙ rw (c .form, c .unit, c .a, c .b);
-      rows-hold = λ e. rows-hold h s a (cleared h s e);
-      refused-same = λ n. o .book ∙ ap stateOf (grown-same h s n);
+      accepted-rows = λ e. let d = cleared c h s e in o .answer ∙ rw (d .form, d .unit, d .a, d .b);
+      rows-hold = λ e. rows-hold c h s a (cleared c h s e);
+      refused-same = λ n. o .book ∙ ap (stateOf c) (grown-same c h s n);
     }
 
-each : (ss : List BookSecond) (h : History) → Accepted h → EachSecond (stateOf h) h ss
-each [] h a = tt
-each (s ∷ ss) h a =
-    let o = over-past h a s in (
-      at-second h a s,
-      subst (λ (k : Book). EachSecond k (grown h s) ss) (sym (o .book)) (each ss (grown h s) (o .stays)),
+each : (ss : List BookSecond) (c : Closed) (h : History) → Accepted c h → EachSecond (stateOf c h) c h ss
+each [] c h a = tt
+each (s ∷ ss) c h a =
+    let o = over-past c h a s in (
+      at-second c h a s,
+      subst (λ (k : Book). EachSecond k c (grown c h s) ss) (sym (o .book)) (each ss c (grown c h s) (o .stays)),
     )
 
 -- ---- for every list of book seconds from a fresh book, refused ones included
 
-fresh-is : stateOf [] ≡ fresh
+pub fresh-is : stateOf [] [] ≡ fresh
 unfolding fresh stateOf sumsOf
 fresh-is = refl
 
-none-accepted : Accepted []
-unfolding Accepted
+pub none-accepted : Accepted [] []
+unfolding Accepted AllClosed
 none-accepted = tt
 
-balanced : (h : History) → Accepted h → Balanced h (stateOf h)
+balanced : (c : Closed) (h : History) → Accepted c h → Balanced c h (stateOf c h)
 unfolding stateOf sumsOf
-balanced h a =
+balanced c h a =
     record {
-      balance = balance h a;
+      balance = balance c h a;
       kept-a = refl;
       kept-b = refl;
       kept-open = refl;
       kept-due = refl;
-      sums-fit = sums-fit (length h) (sumsOf h) (counted h a) (sums-ready h a);
+      sums-fit = sums-fit (length h) (sumsOf c h) (counted c h a) (sums-ready c h a);
       last = refl;
       accepted-all = a;
     }
 
-pub claims : (ss : List BookSecond) → Claims ss
-claims ss =
-    let last : bookAfter fresh ss ≡ stateOf (accepted [] ss) = subst (λ (k : Book). bookAfter k ss ≡ stateOf (accepted [] ss)) fresh-is (lasts ss [] none-accepted) in
+pub list-holds : (c : Closed) (h : History) → Accepted c h → (ss : List BookSecond) → ListHolds (stateOf c h) c h ss
+list-holds c h a ss =
     record {
-      balanced = rw last (balanced (accepted [] ss) (all-accepted ss [] none-accepted));
-      each = subst (λ (k : Book). EachSecond k [] ss) fresh-is (each ss [] none-accepted);
+      balanced = rw (lasts ss c h a) (balanced c (accepted c h ss) (all-accepted ss c h a));
+      each = each ss c h a;
     }
+
+pub claims : (ss : List BookSecond) → Claims ss
+claims ss = subst (λ (k : Book). ListHolds k [] [] ss) fresh-is (list-holds [] [] none-accepted ss)
+
+-- ---- and for every chain of lists and handovers
+
+pub handed : (c : Closed) (h : History) → handedOver (stateOf c h) ≡ stateOf (h ∷ c) []
+unfolding stateOf sumsOf
+handed c h =
+    λ i. record {
+      unit = plant-claims.claims .handed-over (closedOf unitBytes c) (pastOf unitBytes h) i;
+      a = plant-claims.claims .handed-over (closedOf aBytes c) (pastOf aBytes h) i;
+      b = plant-claims.claims .handed-over (closedOf bBytes c) (pastOf bBytes h) i;
+      sums = noSums;
+    }
+
+-- the book's count is that of its accepted seconds
+number-is : (c : Closed) (h : History) → handOverIn (stateOf c h) ≡ handOverBy (handOverNumber (length h)) (stateOf c h)
+unfolding handOverIn stateOf plant-state.stateOf
+number-is c h = ap (λ (t : ℕ). handOverBy (handOverNumber t) (stateOf c h)) (length-map h _)
+
+at-hand-over : (c : Closed) (h : History) → AtHandOver (stateOf c h) c h
+unfolding handOverNumber
+at-hand-over c h =
+    record {
+      refused = λ n. number-is c h ∙ rw (ne-eqb _ _ n);
+      opened = λ e. number-is c h ∙ rw (eq-eqb _ _ e, handed c h);
+    }
+
+whole : (t : ℕ) → handOverNumber t ≡ 0 → t % quarterHour ≡ 0
+unfolding handOverNumber
+whole t e = go (eqb (t % quarterHour) 0) refl e
+  where
+    go : (b : Bool) → eqb (t % quarterHour) 0 ≡ b → _≡_ {A = ℕ} (cond (not b) 29 0) 0 → t % quarterHour ≡ 0
+    go true q e = eqb-true _ _ q
+    go false q e = absurd (omega arith)
+
+-- what goes on after a handover was left by accepted seconds too
+module _ (c : Closed) (h : History) (a : Accepted c h) where
+  next-book : handOverIn (stateOf c h) .book ≡ stateOf (closedHanded c h) (pastHanded h)
+  unfolding closedHanded pastHanded
+  next-book = rw (number-is c h) (go (handOverNumber (length h)))
+    where
+      go : (n : ℕ) → handOverBy n (stateOf c h) .book ≡ stateOf (closedBy n c h) (pastBy n h)
+      go zero = handed c h
+      go (suc n) = refl
+
+  pub next-accepted : Accepted (closedHanded c h) (pastHanded h)
+  unfolding closedHanded pastHanded Accepted AllClosed
+  next-accepted = go (handOverNumber (length h)) refl
+    where
+      go : (n : ℕ) → handOverNumber (length h) ≡ n → Accepted (closedBy n c h) (pastBy n h)
+      go zero e = (whole (length h) e, a)
+      go (suc n) e = a
+
+chain-holds : (chain : List (List BookSecond)) (c : Closed) (h : History) → Accepted c h → ChainHolds (stateOf c h) c h chain
+chain-holds [] c h a = tt
+chain-holds (ss ∷ chain) c h a =
+    let later = accepted c h ss in
+    let all = all-accepted ss c h a in (
+      list-holds c h a ss,
+      rw (lasts ss c h a) (at-hand-over c later),
+      rw (lasts ss c h a, next-book c later all) (chain-holds chain (closedHanded c later) (pastHanded later) (next-accepted c later all)),
+    )
+
+pub chains : (chain : List (List BookSecond)) → ChainHolds fresh [] [] chain
+chains chain = subst (λ (k : Book). ChainHolds k [] [] chain) fresh-is (chain-holds chain [] [] none-accepted)
+
+pub book-claims : BookClaims
+book-claims = record { every-list = claims; every-chain = chains; every-cut = λ early late whole a. cut early whole late a }

@@ -12,7 +12,7 @@ use Rattle.record.specs.Record.{size, bookSize}
 use Rattle.book.specs.declared.Book.{Book}
 use Rattle.book.specs.declared.BookAnswer.the-variants.{Refused}
 use Rattle.book.specs.declared.BookStep.{BookStep}
-use Rattle.book.specs.Seconds.{History, unitBytes, aBytes, bBytes}
+use Rattle.book.specs.Seconds.{History, Closed, unitBytes, aBytes, bBytes}
 use Rattle.book.specs.Refusals.{formRules, formNumber, Accepted}
 use Rattle.book.specs.State.{secondOf, stateOf, OverPast, stepBy, stepIn, PartsOf, PlantsStepped, Ready, Stepped}
 use Rattle.book.proofs.Past.{over-past}
@@ -40,8 +40,8 @@ module _ (k : Book) (o : ℕ) (s : List ℕ) where
   by-refusal zero given h = absurd (h refl)
   by-refusal (suc n) given h = refl
 
-  by-past : {r : BookStep} → r ≡ stepIn k (secondOf o s) → (h : History) → Accepted h → k ≡ stateOf h → OverPast h (secondOf o s) r
-  by-past e h a p = rw (e, p) (over-past h a (secondOf o s))
+  by-past : {r : BookStep} → r ≡ stepIn k (secondOf o s) → (c : Closed) (h : History) → Accepted c h → k ≡ stateOf c h → OverPast c h (secondOf o s) r
+  by-past e c h a p = rw (e, p) (over-past c h a (secondOf o s))
 
   pub refused : {n : ℕ} → n ≡ formNumber (secondOf o s) → (n ≡ 0 → ⊥) → Ready k → Stepped k (secondOf o s) (record { answer = Refused n; book = k })
   unfolding stepIn

@@ -2,6 +2,8 @@ pub mod Sizes
 pub mod Past
 pub mod Holds
 pub mod Balance
+pub mod Handing
+pub mod Cut
 pub mod Claims
 pub mod Plants
 pub mod Form

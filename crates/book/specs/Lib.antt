@@ -3,7 +3,9 @@ pub mod Refusals
 pub mod Rows
 pub mod Sums
 pub mod State
+pub mod HandOver
 pub mod Run
+pub mod Cut
 pub mod Claims
 pub mod List
 pub mod Values

@@ -12,7 +12,7 @@ use Rattle.book.specs.declared.BookAnswer.{BookAnswer}
 use Rattle.book.specs.declared.BookAnswer.the-variants.{Rows, Refused, RefusedBy}
 use Rattle.book.specs.declared.Plant.{Plant}
 use Rattle.book.specs.declared.Plant.the-variants.{U, A, B}
-use Rattle.book.specs.Seconds.{BookSecond, History, unitBytes, aBytes, bBytes, pastOf}
+use Rattle.book.specs.Seconds.{BookSecond, History, Closed, unitBytes, aBytes, bBytes, pastOf, closedOf}
 use Rattle.book.specs.Refusals.{formNumber, unitNumber, aNumber, bNumber}
 
 -- ---- the unit's values
@@ -34,10 +34,10 @@ soldByA o = others (bitsOf o)
 abbrev pub soldByB : ℕ → KindBits
 soldByB o = bitsOf o
 
--- ---- the rows of second s after the past h
+-- ---- the rows of second s after the past h and the closed books c
 
-unfoldable pub unitRowAt : History → BookSecond → Row
-unitRowAt h s = plant.rowAt (pastOf unitBytes h) (recordOf (unitBytes (s .bytes))) (pos 0) (pos 0)
+unfoldable pub unitRowAt : Closed → History → BookSecond → Row
+unitRowAt c h s = plant.rowAt (closedOf unitBytes c) (pastOf unitBytes h) (recordOf (unitBytes (s .bytes))) (pos 0) (pos 0)
 
 -- the unit's working point
 abbrev pub unitPoint : List ℕ → ℤ
@@ -61,15 +61,15 @@ poolB = record { bytes = bBytes; sold = soldByB }
 abbrev pub addedTo : Pool → BookSecond → Row → ℤ
 addedTo p s u = unitPoint (s .bytes) +ℤ valuesOf (p .sold (s .owner)) u
 
-unfoldable pub poolRowAt : Pool → History → BookSecond → Row
-poolRowAt p h s =
-    plant.rowAt (pastOf (p .bytes) h) (recordOf (p .bytes (s .bytes))) (addedTo p s (unitRowAt h s)) (unitPoint (s .bytes))
+unfoldable pub poolRowAt : Pool → Closed → History → BookSecond → Row
+poolRowAt p c h s =
+    plant.rowAt (closedOf (p .bytes) c) (pastOf (p .bytes) h) (recordOf (p .bytes (s .bytes))) (addedTo p s (unitRowAt c h s)) (unitPoint (s .bytes))
 
-abbrev pub aRowAt : History → BookSecond → Row
-aRowAt h s = poolRowAt poolA h s
+abbrev pub aRowAt : Closed → History → BookSecond → Row
+aRowAt c h s = poolRowAt poolA c h s
 
-abbrev pub bRowAt : History → BookSecond → Row
-bRowAt h s = poolRowAt poolB h s
+abbrev pub bRowAt : Closed → History → BookSecond → Row
+bRowAt c h s = poolRowAt poolB c h s
 
 -- ---- the answer
 
@@ -81,9 +81,9 @@ answerBy zero zero (suc n) nb u a b = RefusedBy A (suc n)
 answerBy zero zero zero (suc n) u a b = RefusedBy B (suc n)
 answerBy zero zero zero zero u a b = Rows u a b
 
-unfoldable pub answerAt : History → BookSecond → BookAnswer
-answerAt h s =
-    answerBy (formNumber s) (unitNumber h s) (aNumber h s) (bNumber h s) (unitRowAt h s) (aRowAt h s) (bRowAt h s)
+unfoldable pub answerAt : Closed → History → BookSecond → BookAnswer
+answerAt c h s =
+    answerBy (formNumber s) (unitNumber c h s) (aNumber c h s) (bNumber c h s) (unitRowAt c h s) (aRowAt c h s) (bRowAt c h s)
 
 -- ---- the answer in 01's terms
 
@@ -104,8 +104,9 @@ saidBy zero zero (suc n) nb fs = refusedBy A (suc n)
 saidBy zero zero zero (suc n) fs = refusedBy B (suc n)
 saidBy zero zero zero zero fs = figures fs
 
-abbrev pub saidAt : History → BookSecond → Said
-saidAt h s = saidBy (formNumber s) (unitNumber h s) (aNumber h s) (bNumber h s) (bookFigures (unitRowAt h s) (aRowAt h s) (bRowAt h s))
+abbrev pub saidAt : Closed → History → BookSecond → Said
+saidAt c h s =
+    saidBy (formNumber s) (unitNumber c h s) (aNumber c h s) (bNumber c h s) (bookFigures (unitRowAt c h s) (aRowAt c h s) (bRowAt c h s))
 
 -- what each case of the answer says, and its number, 0 with rows
 abbrev pub says : BookAnswer → Said

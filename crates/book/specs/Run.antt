@@ -1,7 +1,7 @@
 -- A list of book seconds, refused ones included wherever they fall.
 use mathlib.Core.List.{List, [], _∷_}
 use Rattle.book.specs.declared.Book.{Book}
-use Rattle.book.specs.Seconds.{BookSecond, History}
+use Rattle.book.specs.Seconds.{BookSecond, History, Closed}
 use Rattle.book.specs.Refusals.{grown}
 use Rattle.book.specs.State.{stepIn}
 
@@ -12,6 +12,6 @@ bookAfter k (s ∷ ss) = bookAfter (stepIn k s .book) ss
 
 -- "A book second is accepted when no refusal number applies to it, judged with the seconds accepted before it": those of a list, newest first,
 -- on top of the past h
-unfoldable pub accepted : History → List BookSecond → History
-accepted h [] = h
-accepted h (s ∷ ss) = accepted (grown h s) ss
+unfoldable pub accepted : Closed → History → List BookSecond → History
+accepted c h [] = h
+accepted c h (s ∷ ss) = accepted c (grown c h s) ss

@@ -12,9 +12,13 @@ pub record BookSecond : Type 0 where
   pub owner : ℕ
   pub bytes : List ℕ
 
--- the seconds accepted so far, newest first
+-- the seconds that a book accepted so far, newest first
 abbrev pub History : Type 0
 History = List BookSecond
+
+-- the books closed before it (02, W7), newest first, each with its own seconds; before a fresh book there are none
+abbrev pub Closed : Type 0
+Closed = List History
 
 abbrev pub unitBytes : List ℕ → List ℕ
 unitBytes s = take size s
@@ -28,6 +32,10 @@ bBytes s = take size (drop (2 * size) s)
 -- a plant's own accepted seconds
 abbrev pub pastOf : (List ℕ → List ℕ) → History → plant.History
 pastOf part h = map (λ (s : BookSecond). recordOf (part (s .bytes))) h
+
+-- and those of the closed books
+abbrev pub closedOf : (List ℕ → List ℕ) → Closed → plant.Closed
+closedOf part c = map (pastOf part) c
 
 -- "measured - working point of U, A and B, each plant's record once"
 abbrev pub difference : Record → ℤ

@@ -23,10 +23,10 @@ use Rattle.book.specs.declared.BookAnswer.the-variants.{Rows, Refused, R
 use Rattle.book.specs.declared.BookStep.{BookStep}
 use Rattle.book.specs.declared.Plant.{Plant}
 use Rattle.book.specs.declared.Plant.the-variants.{U, A, B}
-use Rattle.book.specs.Seconds.{BookSecond, History, unitBytes, aBytes, bBytes, pastOf, dueOf}
+use Rattle.book.specs.Seconds.{BookSecond, History, Closed, unitBytes, aBytes, bBytes, pastOf, closedOf, dueOf}
 use Rattle.book.specs.Refusals.{formNumber, numberAt, Accepted, grown}
 use Rattle.book.specs.Rows.{unitPoint, Pool, poolA, poolB, addedTo, answerAt, says, saidAt, numberIn}
-use Rattle.book.specs.Sums.{kwSeconds, actualsOf, openOf, sumsOf}
+use Rattle.book.specs.Sums.{kwSeconds, actualsOf, openOf, sumsOf, noSums}
 
 -- an owner byte and bytes as a book second
 abbrev pub secondOf : ℕ → List ℕ → BookSecond
@@ -36,32 +36,26 @@ secondOf o s = record { owner = o; bytes = s }
 
 -- "a fresh book: no second accepted, all setpoints and limits 0, every signal resting, no leftover, the kept sums 0"
 unfoldable pub fresh : Book
-fresh =
-    record {
-      unit = plant.stateOf [];
-      a = plant.stateOf [];
-      b = plant.stateOf [];
-      sums = record { a = kwSeconds (pos 0); b = kwSeconds (pos 0); «open» = kwSeconds (pos 0); due = kwSeconds (pos 0) };
-    }
+fresh = record { unit = plant.stateOf [] []; a = plant.stateOf [] []; b = plant.stateOf [] []; sums = noSums }
 
--- after the past h: each plant's state is the one that its own accepted seconds leave, and the kept sums are the four
-unfoldable pub stateOf : History → Book
-stateOf h =
+-- after the past h and the closed books c: each plant's state is the one that its own accepted seconds leave, and the kept sums are the four
+unfoldable pub stateOf : Closed → History → Book
+stateOf c h =
     record {
-      unit = plant.stateOf (pastOf unitBytes h);
-      a = plant.stateOf (pastOf aBytes h);
-      b = plant.stateOf (pastOf bBytes h);
-      sums = sumsOf h;
+      unit = plant.stateOf (closedOf unitBytes c) (pastOf unitBytes h);
+      a = plant.stateOf (closedOf aBytes c) (pastOf aBytes h);
+      b = plant.stateOf (closedOf bBytes c) (pastOf bBytes h);
+      sums = sumsOf c h;
     }
 
 -- the step r of second s after the accepted seconds h: its answer is the one over them, and its book the one that they and, unless it is
 -- refused, this second leave
-pub record OverPast (h : History) (s : BookSecond) (r : BookStep) : Type 0 where
-  pub said : says (r .answer) ≡ saidAt h s
-  pub number : numberIn (r .answer) ≡ numberAt h s
-  pub answer : r .answer ≡ answerAt h s
-  pub book : r .book ≡ stateOf (grown h s)
-  pub stays : Accepted (grown h s)
+pub record OverPast (c : Closed) (h : History) (s : BookSecond) (r : BookStep) : Type 0 where
+  pub said : says (r .answer) ≡ saidAt c h s
+  pub number : numberIn (r .answer) ≡ numberAt c h s
+  pub answer : r .answer ≡ answerAt c h s
+  pub book : r .book ≡ stateOf c (grown c h s)
+  pub stays : Accepted c (grown c h s)
 
 -- ---- any book: what each plant answers
 
@@ -154,7 +148,7 @@ pub record Ready (k : Book) : Type 0 where
 pub record Stepped (k : Book) (s : BookSecond) (r : BookStep) : Type 0 where
   pub is : r ≡ stepIn k s
   -- where accepted seconds left the book: 01's figures or number over them, and the book that the longer list leaves
-  pub past : (h : History) → Accepted h → k ≡ stateOf h → OverPast h s r
+  pub past : (c : Closed) (h : History) → Accepted c h → k ≡ stateOf c h → OverPast c h s r
   -- what callers need to go on
   pub ready : Ready (r .book)
 

@@ -1,11 +1,12 @@
--- The four sums over the accepted seconds (01, "Book second"), each second with those accepted before it.
+-- The four sums over the seconds that a book accepted (01, "Book second"), each second with those accepted before it, in this book and in the
+-- closed ones c.
 use mathlib.Core.List.{[], _∷_}
 use lib.IntN.{ℤ, pos, _+ℤ_}
 use Rattle.row.specs.declared.Row.{Row}
 use Rattle.row.specs.declared.sums.KwSeconds.{KwSeconds}
 use Rattle.row.specs.declared.sums.Sums.{Sums}
 use Rattle.row.specs.Row.{kindsOf, sumActuals}
-use Rattle.book.specs.Seconds.{BookSecond, History, dueOf}
+use Rattle.book.specs.Seconds.{BookSecond, History, Closed, dueOf}
 use Rattle.book.specs.Rows.{unitRowAt, aRowAt, bRowAt}
 
 abbrev pub actualsOf : Row → ℤ
@@ -19,14 +20,14 @@ sumOver f [] = pos 0
 sumOver f (s ∷ h) = sumOver f h +ℤ f h s
 
 -- "A adds the actuals of all kinds in A's row, B those in B's row, open the open of every plant's row."
-abbrev pub sumA : History → ℤ
-sumA h = sumOver (λ p s. actualsOf (aRowAt p s)) h
+abbrev pub sumA : Closed → History → ℤ
+sumA c h = sumOver (λ p s. actualsOf (aRowAt c p s)) h
 
-abbrev pub sumB : History → ℤ
-sumB h = sumOver (λ p s. actualsOf (bRowAt p s)) h
+abbrev pub sumB : Closed → History → ℤ
+sumB c h = sumOver (λ p s. actualsOf (bRowAt c p s)) h
 
-abbrev pub sumOpen : History → ℤ
-sumOpen h = sumOver (λ p s. openOf (unitRowAt p s) (aRowAt p s) (bRowAt p s)) h
+abbrev pub sumOpen : Closed → History → ℤ
+sumOpen c h = sumOver (λ p s. openOf (unitRowAt c p s) (aRowAt c p s) (bRowAt c p s)) h
 
 -- "Due is read from the bytes of these book seconds"
 abbrev pub sumDue : History → ℤ
@@ -36,5 +37,10 @@ sumDue h = sumOver (λ p s. dueOf (s .bytes)) h
 abbrev pub kwSeconds : ℤ → KwSeconds
 kwSeconds n = record { 0 = n }
 
-unfoldable pub sumsOf : History → Sums
-sumsOf h = record { a = kwSeconds (sumA h); b = kwSeconds (sumB h); «open» = kwSeconds (sumOpen h); due = kwSeconds (sumDue h) }
+unfoldable pub sumsOf : Closed → History → Sums
+sumsOf c h =
+    record { a = kwSeconds (sumA c h); b = kwSeconds (sumB c h); «open» = kwSeconds (sumOpen c h); due = kwSeconds (sumDue h) }
+
+-- "the kept sums 0"
+abbrev pub noSums : Sums
+noSums = record { a = kwSeconds (pos 0); b = kwSeconds (pos 0); «open» = kwSeconds (pos 0); due = kwSeconds (pos 0) }

@@ -16,9 +16,14 @@ use sums::with_second;
 use unit::added_to;
 use unit::others;
 ghost use mathlib.Core.Path.{_≡_};
+ghost use Prim.Native.Nat.{_%_};
+ghost use lib.Dec.{eqb};
 ghost use lib.ListN.{length};
+ghost use Rattle.mfrr.specs.Signal.{quarterHour};
 ghost use Rattle.record.specs.Record.{size};
 ghost use Rattle.book.specs.Refusals.{formNumber};
+ghost use Rattle.book.specs.Sums.{noSums};
+ghost use Rattle.book.specs.HandOver.{Opening, HandedOver};
 ghost use Rattle.book.specs.State.{secondOf, fresh, refusedBy, Ready, PlantsStepped, Stepped};
 
 // The plants of a book.
@@ -48,6 +53,18 @@ pub struct BookStep {
     pub book: Book,
 }
 
+// The next book opens, or the refusal number.
+pub enum HandOverAnswer {
+    Opened,
+    Refused(u8),
+}
+
+// What a handover gives: the next book, or the closing one as it was.
+pub struct HandOver {
+    pub answer: HandOverAnswer,
+    pub book: Book,
+}
+
 // 12 for a length other than 108, 16 for an owner above 7, or 0.
 fn form_number(owner: u8, bytes: &[u8]) -> u8
     ensures { λ r. ⌜ r ≡ formNumber (secondOf owner (now (bytes .entry))) ⌝ }
@@ -67,22 +84,67 @@ fn rows(unit: Row, a: Row, b: Row) -> BookAnswer
     BookAnswer::Rows { unit, a, b }
 }
 
+// Whether so many seconds are whole quarter hours.
+fn is_whole(seconds: u32) -> bool
+    ensures { λ r. ⌜ r ≡ eqb (seconds % quarterHour) 0 ⌝ }
+{
+    seconds % mfrr::QUARTER_HOUR == 0
+}
+
+fn no_sums() -> Sums
+    ensures { λ r. ⌜ r ≡ noSums ⌝ }
+{
+    let zero = KwSeconds(0);
+    Sums {
+        a: zero,
+        b: zero,
+        open: zero,
+        due: zero,
+    }
+}
+
 impl Book {
     // A fresh book.
     pub fn new() -> Self
         ensures { λ r. ⌜ (r ≡ fresh) × Ready r ⌝ }
     {
-        let zero = KwSeconds(0);
         Book {
             unit: PlantState::new(),
             a: PlantState::new(),
             b: PlantState::new(),
-            sums: Sums {
-                a: zero,
-                b: zero,
-                open: zero,
-                due: zero,
-            },
+            sums: no_sums(),
+        }
+    }
+
+    // The book that opens with this one's plants, and with the sums given.
+    fn opening(self, sums: Sums) -> Book
+        requires { ⌜ Ready self ⌝ }
+        ensures { λ r. ⌜ Opening self sums r ⌝ }
+    {
+        let kept = sums;
+        Book {
+            unit: self.unit.handed_over(),
+            a: self.a.handed_over(),
+            b: self.b.handed_over(),
+            sums: kept,
+        }
+    }
+
+    // Hands the closing book over (02, W7): the next book opens with the plants' states, nothing counted and nothing kept. 29 where the seconds that
+    // this one accepted are no multiple of 900.
+    pub fn hand_over(self) -> HandOver
+        requires { ⌜ Ready self ⌝ }
+        ensures { λ r. ⌜ HandedOver self r ⌝ }
+    {
+        if !is_whole(self.unit.seconds) {
+            return HandOver {
+                answer: HandOverAnswer::Refused(29),
+                book: self,
+            };
+        }
+        HandOver {
+            answer: HandOverAnswer::Opened,
+            book: self.opening(no_sums()),
         }
     }
 

@@ -81,10 +81,10 @@ sum-line f s header none =
     let t = secondsOf (take blockSize s) in
     let j = judgedIn f o t (drop blockSize s) in
     let b = book.claims (secondsHeld s) .balanced in
-    let past : j .past ≡ accepted [] (secondsHeld s) = all-accepted f [] (secondsHeld s) (no-second (j .number) _ none) in
+    let past : j .past ≡ accepted [] [] (secondsHeld s) = all-accepted f [] [] (secondsHeld s) (no-second (j .number) _ none) in
     record {
       lines = j .text;
-      figures = sumsOf (accepted [] (secondsHeld s));
+      figures = sumsOf [] (accepted [] [] (secondsHeld s));
       text = rw (header, none, past);
       a = refl;
       b = refl;

@@ -4,7 +4,7 @@ use mathlib.Core.List.{List, [], _∷_, _++_, append-assoc, map}
 use Prim.Native.Nat.{ℕ, zero, suc}
 use native.Mathlib.Omega.{arith}
 use lib.ListN.{length}
-use Rattle.book.specs.Seconds.{BookSecond, History}
+use Rattle.book.specs.Seconds.{BookSecond, History, Closed}
 use Rattle.book.specs.Refusals.{numberAt, Accepted, grown}
 use Rattle.book.specs.Rows.{unitRowAt, aRowAt, bRowAt}
 use Rattle.book.specs.Run.{accepted}
@@ -24,32 +24,32 @@ abbrev pub verdictOf : ℕ → Verdict
 verdictOf zero = verdict.Accepted
 verdictOf (suc n) = verdict.Refused (suc n)
 
-pub record Agrees (r : Ran) (j : Judged) : Type 0 where
+pub record Agrees (c : Closed) (r : Ran) (j : Judged) : Type 0 where
   pub text : r .text ≡ j .text
-  pub kept : r .kept ≡ keptOf (j .past)
+  pub kept : r .kept ≡ keptOf c (j .past)
   pub verdict : r .verdict ≡ verdictOf (j .number)
-  pub accepted : Accepted (j .past)
+  pub accepted : Accepted c (j .past)
 
 module _ (p : Plan) where
   abbrev second : List ℕ → BookSecond
   second s = secondOf (p .owner) s
 
-  pub agree : (l : List (List ℕ)) (h : History) → Accepted h → Agrees (secondsIn p (keptOf h) l) (judged (p .form) h (bookSeconds (p .owner) l))
+  pub agree : (l : List (List ℕ)) (c : Closed) (h : History) → Accepted c h → Agrees c (secondsIn p (keptOf c h) l) (judged (p .form) c h (bookSeconds (p .owner) l))
   unfolding secondsIn judged Accepted
-  agree [] h f = record { text = refl; kept = refl; verdict = refl; accepted = f }
-  agree (s ∷ l) h f = go (numberAt h (second s)) refl (λ e. agree l (second s ∷ h) (e, f))
+  agree [] c h f = record { text = refl; kept = refl; verdict = refl; accepted = f }
+  agree (s ∷ l) c h f = go (numberAt c h (second s)) refl (λ e. agree l c (second s ∷ h) (e, f))
     where
-      go : (n : ℕ) → numberAt h (second s) ≡ n → (numberAt h (second s) ≡ 0 → Agrees (secondsIn p (keptOf (second s ∷ h)) l) (judged (p .form) (second s ∷ h) (bookSeconds (p .owner) l))) → Agrees (secondsIn p (keptOf h) (s ∷ l)) (judged (p .form) h (bookSeconds (p .owner) (s ∷ l)))
+      go : (n : ℕ) → numberAt c h (second s) ≡ n → (numberAt c h (second s) ≡ 0 → Agrees c (secondsIn p (keptOf c (second s ∷ h)) l) (judged (p .form) c (second s ∷ h) (bookSeconds (p .owner) l))) → Agrees c (secondsIn p (keptOf c h) (s ∷ l)) (judged (p .form) c h (bookSeconds (p .owner) (s ∷ l)))
       go zero e others =
           let rest = others e in
-          rw (e, taken p h s f e)
+          rw (e, taken p c h s f e)
           (record {
-            text = ap (λ (t : List ℕ). linesOf (p .form) (length h) (unitRowAt h (second s)) (aRowAt h (second s)) (bRowAt h (second s)) ++ t) (rest .text);
+            text = ap (λ (t : List ℕ). linesOf (p .form) (length h) (unitRowAt c h (second s)) (aRowAt c h (second s)) (bRowAt c h (second s)) ++ t) (rest .text);
             kept = rest .kept;
             verdict = rest .verdict;
             accepted = rest .accepted;
           })
-      go (suc n) e others = rw (e, refused p h s f e) (record { text = refl; kept = refl; verdict = refl; accepted = f })
+      go (suc n) e others = rw (e, refused p c h s f e) (record { text = refl; kept = refl; verdict = refl; accepted = f })
 
 -- ---- a list in two parts
 
@@ -57,23 +57,23 @@ abbrev pub then : ℕ → Judged → Judged → Judged
 then zero j k = record { text = j .text ++ k .text; past = k .past; number = k .number }
 then (suc n) j k = j
 
-pub two-parts : (f : Form) (h : History) (l m : List BookSecond) → judged f h (l ++ m) ≡ then (judged f h l .number) (judged f h l) (judged f (judged f h l .past) m)
+pub two-parts : (f : Form) (c : Closed) (h : History) (l m : List BookSecond) → judged f c h (l ++ m) ≡ then (judged f c h l .number) (judged f c h l) (judged f c (judged f c h l .past) m)
 unfolding judged
-two-parts f h [] m = refl
-two-parts f h (s ∷ l) m = go (numberAt h s) (judged f (s ∷ h) l .number) refl (two-parts f (s ∷ h) l m)
+two-parts f c h [] m = refl
+two-parts f c h (s ∷ l) m = go (numberAt c h s) (judged f c (s ∷ h) l .number) refl (two-parts f c (s ∷ h) l m)
   where
-    go : (n q : ℕ) → judged f (s ∷ h) l .number ≡ q → judged f (s ∷ h) (l ++ m) ≡ then (judged f (s ∷ h) l .number) (judged f (s ∷ h) l) (judged f (judged f (s ∷ h) l .past) m) → judgedBy n f h s (judged f (s ∷ h) (l ++ m)) ≡ then (judgedBy n f h s (judged f (s ∷ h) l) .number) (judgedBy n f h s (judged f (s ∷ h) l)) (judged f (judgedBy n f h s (judged f (s ∷ h) l) .past) m)
+    go : (n q : ℕ) → judged f c (s ∷ h) l .number ≡ q → judged f c (s ∷ h) (l ++ m) ≡ then (judged f c (s ∷ h) l .number) (judged f c (s ∷ h) l) (judged f c (judged f c (s ∷ h) l .past) m) → judgedBy n f c h s (judged f c (s ∷ h) (l ++ m)) ≡ then (judgedBy n f c h s (judged f c (s ∷ h) l) .number) (judgedBy n f c h s (judged f c (s ∷ h) l)) (judged f c (judgedBy n f c h s (judged f c (s ∷ h) l) .past) m)
     go (suc n) q e rest = refl
     go zero zero e rest = rw (rest, e) (rw append-assoc)
     go zero (suc q) e rest = rw (rest, e) (rw e)
 
 -- ---- where none is refused, all are accepted
 
-pub all-accepted : (f : Form) (h : History) (l : List BookSecond) → judged f h l .number ≡ 0 → judged f h l .past ≡ accepted h l
+pub all-accepted : (f : Form) (c : Closed) (h : History) (l : List BookSecond) → judged f c h l .number ≡ 0 → judged f c h l .past ≡ accepted c h l
 unfolding judged accepted
-all-accepted f h [] e = refl
-all-accepted f h (s ∷ l) e = go (numberAt h s) refl e (all-accepted f (s ∷ h) l)
+all-accepted f c h [] e = refl
+all-accepted f c h (s ∷ l) e = go (numberAt c h s) refl e (all-accepted f c (s ∷ h) l)
   where
-    go : (n : ℕ) → numberAt h s ≡ n → judgedBy n f h s (judged f (s ∷ h) l) .number ≡ 0 → (judged f (s ∷ h) l .number ≡ 0 → judged f (s ∷ h) l .past ≡ accepted (s ∷ h) l) → judgedBy n f h s (judged f (s ∷ h) l) .past ≡ accepted (grown h s) l
-    go zero q z rest = rest z ∙ ap (λ (k : History). accepted k l) (sym (grown-more h s q))
+    go : (n : ℕ) → numberAt c h s ≡ n → judgedBy n f c h s (judged f c (s ∷ h) l) .number ≡ 0 → (judged f c (s ∷ h) l .number ≡ 0 → judged f c (s ∷ h) l .past ≡ accepted c (s ∷ h) l) → judgedBy n f c h s (judged f c (s ∷ h) l) .past ≡ accepted c (grown c h s) l
+    go zero q z rest = rest z ∙ ap (λ (k : History). accepted c k l) (sym (grown-more c h s q))
     go (suc n) q z rest = absurd (omega (arith, z))

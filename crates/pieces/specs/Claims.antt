@@ -38,11 +38,11 @@ secondsHeld s =
 pub record SumLine (f : Form) (s : List ℕ) : Type 0 where
   pub lines : List ℕ
   pub figures : Sums
-  pub text : printed f s ≡ lines ++ (countsOf f (tallyOf (accepted [] (secondsHeld s))) ++ sumText figures)
-  pub a : figures .a .0 ≡ sumA (accepted [] (secondsHeld s))
-  pub b : figures .b .0 ≡ sumB (accepted [] (secondsHeld s))
-  pub «open» : figures .«open» .0 ≡ sumOpen (accepted [] (secondsHeld s))
-  pub due : figures .due .0 ≡ sumDue (accepted [] (secondsHeld s))
+  pub text : printed f s ≡ lines ++ (countsOf f (tallyOf [] (accepted [] [] (secondsHeld s))) ++ sumText figures)
+  pub a : figures .a .0 ≡ sumA [] (accepted [] [] (secondsHeld s))
+  pub b : figures .b .0 ≡ sumB [] (accepted [] [] (secondsHeld s))
+  pub «open» : figures .«open» .0 ≡ sumOpen [] (accepted [] [] (secondsHeld s))
+  pub due : figures .due .0 ≡ sumDue (accepted [] [] (secondsHeld s))
   pub balance : figures .a .0 +ℤ figures .b .0 +ℤ figures .«open» .0 ≡ figures .due .0
 
 pub record Claims : Type 0 where

@@ -4,7 +4,7 @@ use mathlib.Core.List.{List, [], _∷_, _++_, map}
 use Prim.Native.Nat.{ℕ, zero, suc}
 use lib.ListN.{length, take, drop}
 use Rattle.numbers.specs.Rules.{orElse}
-use Rattle.book.specs.Seconds.{BookSecond, History}
+use Rattle.book.specs.Seconds.{BookSecond, History, Closed}
 use Rattle.book.specs.Refusals.{numberAt}
 use Rattle.book.specs.Rows.{unitRowAt, aRowAt, bRowAt}
 use Rattle.book.specs.Sums.{sumsOf}
@@ -25,30 +25,30 @@ pub record Judged : Type 0 where
   pub past : History
   pub number : ℕ
 
--- second s after the past h, where its number is n and `rest` is what the seconds after it give
-abbrev pub judgedBy : ℕ → Form → History → BookSecond → Judged → Judged
-judgedBy zero f h s rest =
+-- second s after the past h and the closed books c, where its number is n and `rest` is what the seconds after it give
+abbrev pub judgedBy : ℕ → Form → Closed → History → BookSecond → Judged → Judged
+judgedBy zero f c h s rest =
     record {
-      text = linesOf f (length h) (unitRowAt h s) (aRowAt h s) (bRowAt h s) ++ rest .text;
+      text = linesOf f (length h) (unitRowAt c h s) (aRowAt c h s) (bRowAt c h s) ++ rest .text;
       past = rest .past;
       number = rest .number;
     }
-judgedBy (suc n) f h s rest = record { text = []; past = h; number = suc n }
+judgedBy (suc n) f c h s rest = record { text = []; past = h; number = suc n }
 
-unfoldable pub judged : Form → History → List BookSecond → Judged
-judged f h [] = record { text = []; past = h; number = 0 }
-judged f h (s ∷ ss) = judgedBy (numberAt h s) f h s (judged f (s ∷ h) ss)
+unfoldable pub judged : Form → Closed → History → List BookSecond → Judged
+judged f c h [] = record { text = []; past = h; number = 0 }
+judged f c h (s ∷ ss) = judgedBy (numberAt c h s) f c h s (judged f c (s ∷ h) ss)
 
 -- ---- the last line
 
 -- "then a sum line"; "A refusal prints `refused N at S` instead of the rest, S being seconds accepted so far."
-abbrev pub lastText : ℕ → History → List ℕ
-lastText zero h = sumText (sumsOf h)
-lastText (suc n) h = refusalText (suc n) (length h)
+abbrev pub lastText : ℕ → Closed → History → List ℕ
+lastText zero c h = sumText (sumsOf c h)
+lastText (suc n) c h = refusalText (suc n) (length h)
 
 -- in the short form the counts over the accepted seconds stand before it
-unfoldable pub endText : Form → ℕ → History → List ℕ
-endText f n h = countsOf f (tallyOf h) ++ lastText n h
+unfoldable pub endText : Form → ℕ → Closed → History → List ℕ
+endText f n c h = countsOf f (tallyOf c h) ++ lastText n c h
 
 -- ---- the whole
 
@@ -57,7 +57,7 @@ abbrev pub bookSeconds : ℕ → List (List ℕ) → List BookSecond
 bookSeconds o ss = map (secondOf o) ss
 
 abbrev pub judgedIn : Form → ℕ → ℕ → List ℕ → Judged
-judgedIn f o t s = judged f [] (bookSeconds o (blocksOf t s .seconds))
+judgedIn f o t s = judged f [] [] (bookSeconds o (blocksOf t s .seconds))
 
 -- the number that ends the text, 0 where a sum line does: the second's that is refused, else the block's
 abbrev pub numberIn : Form → ℕ → ℕ → List ℕ → ℕ
@@ -66,8 +66,8 @@ numberIn f o t s = orElse (judgedIn f o t s .number) (blocksOf t s .number)
 abbrev pub printedBy : ℕ → Form → List ℕ → List ℕ → List ℕ
 printedBy zero f head s =
     judgedIn f (ownerOf head) (secondsOf head) s .text
-    ++ endText f (numberIn f (ownerOf head) (secondsOf head) s) (judgedIn f (ownerOf head) (secondsOf head) s .past)
-printedBy (suc n) f head s = endText f (suc n) []
+    ++ endText f (numberIn f (ownerOf head) (secondsOf head) s) [] (judgedIn f (ownerOf head) (secondsOf head) s .past)
+printedBy (suc n) f head s = endText f (suc n) [] []
 
 -- "The program reads a book from standard input and prints a line a second, then a sum line."
 unfoldable pub printed : Form → List ℕ → List ℕ

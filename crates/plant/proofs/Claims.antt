@@ -2,7 +2,7 @@
 use mathlib.Core.Path.{_≡_, refl, sym, ap, _∙_, subst}
 use mathlib.Core.Bool.{Bool, true, false, not, cond}
 use mathlib.Core.List.{List, [], _∷_}
-use Prim.Native.Nat.{ℕ, zero, suc, _*_, _-_, _^_}
+use Prim.Native.Nat.{ℕ, zero, suc, _*_, _-_, _%_, _^_}
 use native.Mathlib.Omega.{arith}
 use lib.Dec.{T, leb, eqb}
 use lib.IntN.{ℤ, pos}
@@ -28,38 +28,41 @@ use Rattle.fcr.specs.State as fcr
 use Rattle.fcr.proofs.Range.{setpoint-within}
 use Rattle.fcr.proofs.Claims as fcr-claims
 use Rattle.afrr.specs.State as afrr
+use Rattle.mfrr.specs.Signal.{quarterHour}
 use Rattle.mfrr.specs.State as mfrr
 use Rattle.afrr.proofs.Claims as afrr-claims
 use Rattle.mfrr.proofs.Claims as mfrr-claims
 use Rattle.plant.specs.declared.PlantAnswer.{PlantAnswer}
 use Rattle.plant.specs.declared.PlantStep.{PlantStep}
-use Rattle.plant.specs.Seconds.{History, fcrSetpoint, fcrPast, afrrSecond, afrrPast, mfrrSecond, mfrrPast}
-use Rattle.plant.specs.Refusals.{mostPower, recordNumberAt, numberAt, Accepted, grownBy, grown}
+use Rattle.plant.specs.Seconds.{History, Closed, onTimeline, fcrSetpoint, fcrPast, afrrSecond, afrrPast, mfrrSecond, mfrrPast}
+use Rattle.plant.specs.Refusals.{mostPower, recordNumberAt, numberAt, AllClosed, Accepted, grownBy, grown}
 use Rattle.plant.specs.Rows.{kindsWith, kindsAt, rowAt, numberIn, says, saidBy, answerBy, answerAt, sharedDifference, figuresOf}
-use Rattle.plant.specs.State.{stateOf, OverPast, mostAdded, Added, stepIn, Ready}
+use Rattle.plant.specs.State.{stateOf, handedOver, OverPast, mostAdded, Added, stepIn, Ready}
 use Rattle.plant.specs.Run.{PlantSecond, stateAfter, answers, accepted, answersOver}
 use Rattle.plant.specs.Claims.{kindList, EveryList, RowHolds, Stuck, callWhileOff, Claims}
 use Rattle.plant.proofs.Past.{Clear, clear, ready, fcr-ranged, afrr-second-fair, afrr-fair, mfrr-accepted, over-bytes}
+use Rattle.plant.proofs.Fresh.{fresh-book}
+use Rattle.plant.proofs.Cut.{cut}
 use Rattle.plant.proofs.TurnedDown.{same-turned-down}
 use Rattle.plant.proofs.QuarterHour.{quarter-hour, fault-no-kind, refuses-record, stays, call-accepted, free-again}
 
 -- ---- one second
 
 -- with no number there is a record, and none applies to it
-pub record-number : (h : History) (s : List ℕ) → numberAt h s ≡ 0 → recordNumberAt h (recordOf s) ≡ 0
+pub record-number : (c : Closed) (h : History) (s : List ℕ) → numberAt c h s ≡ 0 → recordNumberAt c h (recordOf s) ≡ 0
 unfolding numberAt recordNumberAt
-record-number h s e = go (eqb (length s) size) e
+record-number c h s e = go (eqb (length s) size) e
   where
-    go : (t : Bool) → cond (not t) 12 (recordNumberAt h (recordOf s)) ≡ 0 → recordNumberAt h (recordOf s) ≡ 0
+    go : (t : Bool) → cond (not t) 12 (recordNumberAt c h (recordOf s)) ≡ 0 → recordNumberAt c h (recordOf s) ≡ 0
     go true e = e
     go false e = absurd (omega arith)
 
-pub still-accepted : (h : History) (a : Accepted h) (s : List ℕ) → Accepted (grown h s)
+pub still-accepted : (c : Closed) (h : History) (a : Accepted c h) (s : List ℕ) → Accepted c (grown c h s)
 unfolding grown Accepted
-still-accepted h a s = go (numberAt h s) refl
+still-accepted c h a s = go (numberAt c h s) refl
   where
-    go : (n : ℕ) → numberAt h s ≡ n → Accepted (grownBy n (recordOf s) h)
-    go zero e = (record-number h s e, a)
+    go : (n : ℕ) → numberAt c h s ≡ n → Accepted c (grownBy n (recordOf s) h)
+    go zero e = (record-number c h s e, a)
     go (suc n) e = a
 
 number-by : (n : ℕ) (r : Row) → numberIn (answerBy n r) ≡ n
@@ -70,57 +73,67 @@ said-by : (n : ℕ) (r : Row) → says (answerBy n r) ≡ saidBy n (figuresOf r)
 said-by zero r = refl
 said-by (suc n) r = refl
 
-pub over-past : (h : History) (a : Accepted h) (s : List ℕ) (m w : ℤ) → OverPast h s m w (stepIn (stateOf h) s m w)
+pub over-past : (c : Closed) (h : History) (a : Accepted c h) (s : List ℕ) (m w : ℤ) → OverPast c h s m w (stepIn (stateOf c h) s m w)
 unfolding answerAt
-over-past h a s m w =
-    let o = over-bytes h a s m w in
+over-past c h a s m w =
+    let o = over-bytes c h a s m w in
     record {
-      said = ap (λ (p : PlantStep). says (p .answer)) o ∙ said-by (numberAt h s) _;
-      number = ap (λ (p : PlantStep). numberIn (p .answer)) o ∙ number-by (numberAt h s) _;
+      said = ap (λ (p : PlantStep). says (p .answer)) o ∙ said-by (numberAt c h s) _;
+      number = ap (λ (p : PlantStep). numberIn (p .answer)) o ∙ number-by (numberAt c h s) _;
       answer = ap (λ (p : PlantStep). p .answer) o;
       state = ap (λ (p : PlantStep). p .state) o;
-      stays = still-accepted h a s;
+      stays = still-accepted c h a s;
     }
 
 -- ---- a list
 
-module _ where
-  lasts : (ss : List PlantSecond) (h : History) → Accepted h → stateAfter (stateOf h) ss ≡ stateOf (accepted h ss)
+module _ (c : Closed) where
+  lasts : (ss : List PlantSecond) (h : History) → Accepted c h → stateAfter (stateOf c h) ss ≡ stateOf c (accepted c h ss)
   unfolding stateAfter accepted
   lasts [] h a = refl
   lasts (s ∷ ss) h a =
-      let o = over-past h a (s .bytes) (s .added-measured) (s .added-point) in
-      rw (o .state) (lasts ss (grown h (s .bytes)) (o .stays))
+      let o = over-past c h a (s .bytes) (s .added-measured) (s .added-point) in
+      rw (o .state) (lasts ss (grown c h (s .bytes)) (o .stays))
 
-  each-answer : (ss : List PlantSecond) (h : History) → Accepted h → answers (stateOf h) ss ≡ answersOver h ss
+  each-answer : (ss : List PlantSecond) (h : History) → Accepted c h → answers (stateOf c h) ss ≡ answersOver c h ss
   unfolding answers answersOver
   each-answer [] h a = refl
   each-answer (s ∷ ss) h a =
-      let o = over-past h a (s .bytes) (s .added-measured) (s .added-point) in
-      rw (o .answer, o .state) (ap (λ (l : List PlantAnswer). answerAt h (s .bytes) (s .added-measured) (s .added-point) ∷ l) (each-answer ss (grown h (s .bytes)) (o .stays)))
+      let o = over-past c h a (s .bytes) (s .added-measured) (s .added-point) in
+      rw (o .answer, o .state) (ap (λ (l : List PlantAnswer). answerAt c h (s .bytes) (s .added-measured) (s .added-point) ∷ l) (each-answer ss (grown c h (s .bytes)) (o .stays)))
 
-  all-accepted : (ss : List PlantSecond) (h : History) → Accepted h → Accepted (accepted h ss)
+  all-accepted : (ss : List PlantSecond) (h : History) → Accepted c h → Accepted c (accepted c h ss)
   unfolding accepted
   all-accepted [] h a = a
-  all-accepted (s ∷ ss) h a = all-accepted ss (grown h (s .bytes)) (still-accepted h a (s .bytes))
+  all-accepted (s ∷ ss) h a = all-accepted ss (grown c h (s .bytes)) (still-accepted c h a (s .bytes))
 
-pub also-accepted : (h : History) (x : Record) → recordNumberAt h x ≡ 0 → Accepted h → Accepted (x ∷ h)
+pub also-accepted : (c : Closed) (h : History) (x : Record) → recordNumberAt c h x ≡ 0 → Accepted c h → Accepted c (x ∷ h)
 unfolding Accepted
-also-accepted h x e a = (e, a)
+also-accepted c h x e a = (e, a)
 
-pub none-accepted : Accepted []
-unfolding Accepted
+pub none-accepted : Accepted [] []
+unfolding Accepted AllClosed
 none-accepted = tt
 
-pub every-list : (ss : List PlantSecond) → EveryList ss
-every-list ss =
-    let a = all-accepted ss [] none-accepted in
+pub lists-after : (c : Closed) (h : History) → Accepted c h → (ss : List PlantSecond) → EveryList c h ss
+lists-after c h a ss =
+    let all = all-accepted c ss h a in
     record {
-      last = lasts ss [] none-accepted;
-      each = each-answer ss [] none-accepted;
-      accepted-all = a;
-      ready = subst Ready (sym (lasts ss [] none-accepted)) (ready (accepted [] ss) a);
+      last = lasts c ss h a;
+      each = each-answer c ss h a;
+      accepted-all = all;
+      ready = subst Ready (sym (lasts c ss h a)) (ready c (accepted c h ss) all);
     }
+
+-- ---- handed over
+
+handed-over : (c : Closed) (h : History) → handedOver (stateOf c h) ≡ stateOf (h ∷ c) []
+unfolding stateOf
+handed-over c h = refl
+
+pub handed-accepted : (c : Closed) (h : History) → length h % quarterHour ≡ 0 → Accepted c h → Accepted (h ∷ c) []
+unfolding Accepted AllClosed
+handed-accepted c h e a = (e, a)
 
 -- ---- an accepted second's row
 
@@ -146,18 +159,18 @@ small-fits r h =
           actual = small _ _ (h .actual) tt;
         }
 
-module _ (h : History) (a : Accepted h) (x : Record) (accepted-x : recordNumberAt h x ≡ 0) where
-  cleared : Clear h x
-  cleared = clear h x accepted-x
+module _ (c : Closed) (h : History) (a : Accepted c h) (x : Record) (accepted-x : recordNumberAt c h x ≡ 0) where
+  cleared : Clear c h x
+  cleared = clear c h x accepted-x
 
-  all-published : AllPublished (kindList h x)
+  all-published : AllPublished (kindList c h x)
   unfolding kindsAt kindsWith
   all-published =
       let p = cleared .passed-1-to-7 in (
-        (λ on. fcr-claims.claims .published (fcrPast h) (fcrSetpoint x) (x .«fcr_held») (p .fcr-held .sign)),
+        (λ on. fcr-claims.claims .published (fcrPast c h) (fcrSetpoint x) (x .«fcr_held») (p .fcr-held .sign)),
         (
-          (λ on. afrr-claims.claims .published (afrrPast h) (afrrSecond x) (afrr-second-fair (length h) x p)),
-          ((λ on. mfrr-claims.claims .published (mfrrPast h) (mfrrSecond x)), tt),
+          (λ on. afrr-claims.claims .published (afrrPast c h) (afrrSecond x) (afrr-second-fair (length h) x p)),
+          ((λ on. mfrr-claims.claims .published (mfrrPast c h) (mfrrSecond (onTimeline c x))), tt),
         ),
       )
 
@@ -165,16 +178,16 @@ module _ (h : History) (a : Accepted h) (x : Record) (accepted-x : recordNumberA
   band-sized : (B : ℕ) (l : Limits) → T (leb B sharing.mostLimit) → Within (B * perKw) (l .lower .0) → Within (B * perKw) (l .upper .0) → Within sharing.mostLimit (publishedOf l .low .0) × Within sharing.mostLimit (publishedOf l .high .0)
   band-sized B l t p q = (within-le B sharing.mostLimit _ (lower-within B _ p) t, within-le B sharing.mostLimit _ (upper-within B _ q) t)
 
-  kinds-sized : sharing.SizedKinds (kindsAt h x .fcr) (kindsAt h x .afrr) (kindsAt h x .mfrr)
+  kinds-sized : sharing.SizedKinds (kindsAt c h x .fcr) (kindsAt c h x .afrr) (kindsAt c h x .mfrr)
   unfolding kindsAt kindsWith
   kinds-sized =
       let p = cleared .passed-1-to-7 in
       let s = setpoint-within _ (x .deviation .0) (p .fcr-held .range) in
       let fair : fcr.Fair (fcrSetpoint x) (x .«fcr_held») = record { setpoint-range = s; held-range = p .fcr-held .range; held-sign = p .fcr-held .sign } in
-      let all : afrr.AllFair (afrrPast (x ∷ h)) = (afrr-second-fair (length h) x p, afrr-fair h a) in
-      let f = band-sized fcr.mostLimit _ tt (fcr-claims.claims .lower-small (fcrPast h) (fcrSetpoint x) (x .«fcr_held») (fcr-ranged h a) fair) (fcr-claims.claims .upper-small (fcrPast h) (fcrSetpoint x) (x .«fcr_held») (fcr-ranged h a) fair) in
-      let b = band-sized afrr.mostLimit _ tt (afrr-claims.claims .lower-small (afrrPast (x ∷ h)) all) (afrr-claims.claims .upper-small (afrrPast (x ∷ h)) all) in
-      let g = mfrr-claims.claims .range (mfrrPast h) (mfrrSecond x) (mfrr-accepted (x ∷ h) (also-accepted h x accepted-x a)) in
+      let all : afrr.AllFair (afrrPast c (x ∷ h)) = (afrr-second-fair (length h) x p, afrr-fair c h a) in
+      let f = band-sized fcr.mostLimit _ tt (fcr-claims.claims .lower-small (fcrPast c h) (fcrSetpoint x) (x .«fcr_held») (fcr-ranged c h a) fair) (fcr-claims.claims .upper-small (fcrPast c h) (fcrSetpoint x) (x .«fcr_held») (fcr-ranged c h a) fair) in
+      let b = band-sized afrr.mostLimit _ tt (afrr-claims.claims .lower-small (afrrPast c (x ∷ h)) all) (afrr-claims.claims .upper-small (afrrPast c (x ∷ h)) all) in
+      let g = mfrr-claims.claims .range (mfrrPast c h) (mfrrSecond (onTimeline c x)) (mfrr-accepted c (x ∷ h) (also-accepted c h x accepted-x a)) in
       record {
         fcr = record { setpoint = s; low = f .0; high = f .1 };
         afrr = record { setpoint = p .afrr-setpoint; low = b .0; high = b .1 };
@@ -189,10 +202,10 @@ module _ (h : History) (a : Accepted h) (x : Record) (accepted-x : recordNumberA
       (more mostPower mostAdded sharing.mostShared _ m (omega arith) (p .measured) (d .measured))
       (more mostPower mostPower sharing.mostShared _ w (omega arith) (p .working-point) (d .working-point))
 
-  pub row-holds : (m w : ℤ) → RowHolds h x m w
+  pub row-holds : (m w : ℤ) → RowHolds c h x m w
   unfolding rowAt
   row-holds m w =
-      let k = kindsAt h x in
+      let k = kindsAt c h x in
       let r = row-shared (sharedDifference x m w) (k .fcr) (k .afrr) (k .mfrr) in
       record {
         balance = r .balance;
@@ -201,7 +214,7 @@ module _ (h : History) (a : Accepted h) (x : Record) (accepted-x : recordNumberA
         sized = λ D d. sized D (sharedDifference x m w) (k .fcr) (k .afrr) (k .mfrr) d kinds-sized;
       }
 
-  pub row-fits : (m w : ℤ) → Added m w → Row32 (rowAt h x m w)
+  pub row-fits : (m w : ℤ) → Added m w → Row32 (rowAt c h x m w)
   row-fits m w d = small-fits _ (row-holds m w .sized mostDifference (difference-sized m w d))
 
 -- nothing is added
@@ -210,20 +223,24 @@ none-added = record { measured = within-lit mostAdded (pos 0) tt; working-point 
 
 -- ---- a state that no second can leave
 
-stuck : Stuck callWhileOff
+stuck : Stuck [] callWhileOff
 stuck =
-    let refuses : (s : List ℕ) → numberAt callWhileOff s ≡ 0 → ⊥ = λ s e. refuses-record (recordOf s) (record-number callWhileOff s e) in
-    record { accepted-all = call-accepted; refuses = refuses; stays = stays callWhileOff refuses }
+    let refuses : (s : List ℕ) → numberAt [] callWhileOff s ≡ 0 → ⊥ = λ s e. refuses-record (recordOf s) (record-number [] callWhileOff s e) in
+    record { accepted-all = call-accepted; refuses = refuses; stays = stays [] callWhileOff refuses }
 
 -- ---- all of it
 
 pub claims : Claims
 claims =
     record {
-      every-list = every-list;
-      over-past = λ h a s m w. over-past h a s m w;
-      row-holds = λ h a x e m w. row-holds h a x e m w;
-      fits = λ h a x e. row-fits h a x e (pos 0) (pos 0) none-added;
+      every-list = lists-after [] [] none-accepted;
+      lists-after = lists-after;
+      fresh-book = fresh-book;
+      handed-over = handed-over;
+      cut = cut;
+      over-past = λ c h a s m w. over-past c h a s m w;
+      row-holds = λ c h a x e m w. row-holds c h a x e m w;
+      fits = λ c h a x e. row-fits c h a x e (pos 0) (pos 0) none-added;
       same-turned-down = same-turned-down;
       quarter-hour = quarter-hour;
       fault-no-kind = fault-no-kind;

@@ -11,7 +11,7 @@ use Rattle.record.specs.declared.KindBits.{KindBits}
 use Rattle.record.specs.Record.{recordOf, bitsOf}
 use Rattle.mfrr.specs.Refusals.{rulesAt}
 use Rattle.plant.specs.declared.Setpoints.{Setpoints}
-use Rattle.plant.specs.Seconds.{History, lastStatus, mfrrSecond, mfrrPast, setpointsAt}
+use Rattle.plant.specs.Seconds.{History, Closed, lastStatus, mfrrSecond, mfrrPast, setpointsAt}
 use Rattle.plant.specs.Refusals.{recordRules, offMoves, offRules, baseOffRules, lengthRule, numberAt, baseNumberAt}
 use Rattle.plant.specs.Claims.{SameTurnedDown}
 
@@ -48,12 +48,12 @@ after (r ∷ rs) us vs h = go (r .applies) (after rs us vs h)
     go true q = equal (r .number)
     go false q = q
 
-pub same-turned-down : (h : History) (s : List ℕ) → SameTurnedDown (numberAt h s) (baseNumberAt h s)
+pub same-turned-down : (c : Closed) (h : History) (s : List ℕ) → SameTurnedDown (numberAt c h s) (baseNumberAt c h s)
 unfolding numberAt baseNumberAt
-same-turned-down h s =
+same-turned-down c h s =
     let x = recordOf s in
-    let off = offRules (bitsOf (x .status)) (setpointsAt h x) in
-    let base = baseOffRules (bitsOf (x .status)) (setpointsAt h x) in
-    let calls = rulesAt (mfrrPast h) (mfrrSecond x) in
-    after (lengthRule s ∷ recordRules (length h) (lastStatus h) x) (calls ++ off) (calls ++ base)
-    (after calls off base (of-kinds-off (bitsOf (x .status)) (setpointsAt h x)))
+    let off = offRules (bitsOf (x .status)) (setpointsAt c h x) in
+    let base = baseOffRules (bitsOf (x .status)) (setpointsAt c h x) in
+    let calls = rulesAt (length h) (mfrrPast c h) (mfrrSecond x) in
+    after (lengthRule s ∷ recordRules (length h) (lastStatus c h) x) (calls ++ off) (calls ++ base)
+    (after calls off base (of-kinds-off (bitsOf (x .status)) (setpointsAt c h x)))

@@ -4,7 +4,7 @@ use Prim.Native.Nat.{ℕ, _+_, _%_, _≤_}
 use mathlib.Core.Path.{_≡_}
 use mathlib.Core.Logic.{_↔_, _⊎_}
 use mathlib.Core.Bool.{true, false}
-use mathlib.Core.List.{List, [], _∷_}
+use mathlib.Core.List.{List, [], _∷_, _++_}
 use lib.IntN.{ℤ, pos, natAbs, _+ℤ_}
 use lib.ListN.{length}
 use Rattle.numbers.specs.Bounds.{Within}
@@ -17,41 +17,43 @@ use Rattle.sharing.specs.declared.kinds.Kind.{Kind}
 use Rattle.sharing.specs.Sizes.{SizedRow}
 use Rattle.sharing.specs.Shares.{someOn}
 use Rattle.sharing.specs.Rows.{kindsOn, errorOf, totalOf, three}
-use Rattle.plant.specs.Seconds.{History, lastStatus}
+use Rattle.plant.specs.Seconds.{History, Closed, lastStatus}
 use Rattle.plant.specs.Refusals.{statusMoved, recordNumberAt, numberAt, baseNumberAt, freeRulesAt, freeNumberAt, Accepted}
 use Rattle.plant.specs.Rows.{kindsAt, sharedDifference, rowAt, answerBy, answerAt}
-use Rattle.plant.specs.State.{stateOf, OverPast, Ready, stepIn}
+use Rattle.plant.specs.State.{stateOf, handedOver, OverPast, Ready, stepIn}
 use Rattle.mfrr.specs.Signal.{quarterHour}
 use Rattle.plant.specs.Values.{inStatus, calling}
+use Rattle.plant.specs.Fresh.{FreshBook}
+use Rattle.plant.specs.Cut.{Cut}
 use Rattle.plant.specs.Run.{PlantSecond, stateAfter, answers, accepted, answersOver}
 
--- the past that the definitions see is exactly the accepted seconds
-pub record EveryList (ss : List PlantSecond) : Type 0 where
-  pub last : stateAfter (stateOf []) ss ≡ stateOf (accepted [] ss)
-  pub each : answers (stateOf []) ss ≡ answersOver [] ss
-  pub accepted-all : Accepted (accepted [] ss)
-  pub ready : Ready (stateAfter (stateOf []) ss)
+-- the past that the definitions see is exactly the accepted seconds: of a list that comes after the past h and the closed books c
+pub record EveryList (c : Closed) (h : History) (ss : List PlantSecond) : Type 0 where
+  pub last : stateAfter (stateOf c h) ss ≡ stateOf c (accepted c h ss)
+  pub each : answers (stateOf c h) ss ≡ answersOver c h ss
+  pub accepted-all : Accepted c (accepted c h ss)
+  pub ready : Ready (stateAfter (stateOf c h) ss)
 
 -- the second's kinds as a list, its error and T
-abbrev pub kindList : History → Record → List Kind
-kindList h x = three (kindsAt h x .fcr) (kindsAt h x .afrr) (kindsAt h x .mfrr)
+abbrev pub kindList : Closed → History → Record → List Kind
+kindList c h x = three (kindsAt c h x .fcr) (kindsAt c h x .afrr) (kindsAt c h x .mfrr)
 
-abbrev pub errorAt : History → Record → ℤ → ℤ → ℤ
-errorAt h x m w = errorOf (sharedDifference x m w) (kindList h x)
+abbrev pub errorAt : Closed → History → Record → ℤ → ℤ → ℤ
+errorAt c h x m w = errorOf (sharedDifference x m w) (kindList c h x)
 
-abbrev pub totalAt : History → Record → ℤ → ℤ → ℕ
-totalAt h x m w = totalOf (sharedDifference x m w) (kindList h x)
+abbrev pub totalAt : Closed → History → Record → ℤ → ℤ → ℕ
+totalAt c h x m w = totalOf (sharedDifference x m w) (kindList c h x)
 
 -- what holds of an accepted second's row
-pub record RowHolds (h : History) (x : Record) (m w : ℤ) : Type 0 where
+pub record RowHolds (c : Closed) (h : History) (x : Record) (m w : ℤ) : Type 0 where
   -- the actual values and open make up measured - working point as shared
-  pub balance : sumActuals (kindsOf (rowAt h x m w)) +ℤ rowAt h x m w .«open» .0 ≡ sharedDifference x m w
+  pub balance : sumActuals (kindsOf (rowAt c h x m w)) +ℤ rowAt c h x m w .«open» .0 ≡ sharedDifference x m w
   -- wherever a kind is on, the actual values do so by themselves, and "all kinds lie within their bands exactly when the error lies within the
   -- summed bands"
-  pub whole : someOn (kindsOn (kindList h x)) ≡ true → sumActuals (kindsOf (rowAt h x m w)) ≡ sharedDifference x m w
-  pub within : someOn (kindsOn (kindList h x)) ≡ true → AllInBand (kindsOf (rowAt h x m w)) ↔ (natAbs (errorAt h x m w) ≤ totalAt h x m w)
+  pub whole : someOn (kindsOn (kindList c h x)) ≡ true → sumActuals (kindsOf (rowAt c h x m w)) ≡ sharedDifference x m w
+  pub within : someOn (kindsOn (kindList c h x)) ≡ true → AllInBand (kindsOf (rowAt c h x m w)) ↔ (natAbs (errorAt c h x m w) ≤ totalAt c h x m w)
   -- where measured - working point, as shared, is within D, no figure is above D and four times the largest reserve
-  pub sized : (D : ℕ) → Within D (sharedDifference x m w) → SizedRow D (rowAt h x m w)
+  pub sized : (D : ℕ) → Within D (sharedDifference x m w) → SizedRow D (rowAt c h x m w)
 
 -- 02, W2: 11 "shall now mean FCR only; the same seconds are turned down". Against the number `base` of a second under 01's 11, its number n: one
 -- applies exactly where the other does; where the base's is not 11 they are the same, and where it is, n is one of the three.
@@ -61,36 +63,44 @@ pub record SameTurnedDown (n base : ℕ) : Type 0 where
   pub which-kind : base ≡ 11 → (n ≡ 11) ⊎ ((n ≡ 24) ⊎ (n ≡ 25))
 
 -- 02, W3, of the second of bytes s after the past h
-pub record QuarterHour (h : History) (s : List ℕ) : Type 0 where
+pub record QuarterHour (c : Closed) (h : History) (s : List ℕ) : Type 0 where
   -- a second that 26 doesn't stop gets the number and the row that the other rules give
-  pub other-numbers : (numberAt h s ≡ 26 → ⊥) → numberAt h s ≡ freeNumberAt h s
-  pub same-answer : (numberAt h s ≡ 26 → ⊥) → (m w : ℤ) → answerAt h s m w ≡ answerBy (freeNumberAt h s) (rowAt h (recordOf s) m w)
+  pub other-numbers : (numberAt c h s ≡ 26 → ⊥) → numberAt c h s ≡ freeNumberAt c h s
+  pub same-answer : (numberAt c h s ≡ 26 → ⊥) → (m w : ℤ) → answerAt c h s m w ≡ answerBy (freeNumberAt c h s) (rowAt c h (recordOf s) m w)
   -- 26 applies to none whose kinds are on and off as in the last status, and to none at a multiple of 900
-  pub unchanged : bitsOf (recordOf s .status) ≡ bitsOf (lastStatus h) → statusMoved (length h) (lastStatus h) (recordOf s .status) ≡ false
-  pub at-multiples : length h % quarterHour ≡ 0 → statusMoved (length h) (lastStatus h) (recordOf s .status) ≡ false
+  pub unchanged : bitsOf (recordOf s .status) ≡ bitsOf (lastStatus c h) → statusMoved (length h) (lastStatus c h) (recordOf s .status) ≡ false
+  pub at-multiples : length h % quarterHour ≡ 0 → statusMoved (length h) (lastStatus c h) (recordOf s .status) ≡ false
 
 -- a state that no second can leave: every bytes are refused, so every list leaves it as it is
-pub record Stuck (h : History) : Type 0 where
-  pub accepted-all : Accepted h
-  pub refuses : (s : List ℕ) → numberAt h s ≡ 0 → ⊥
-  pub stays : (ss : List PlantSecond) → accepted h ss ≡ h
+pub record Stuck (c : Closed) (h : History) : Type 0 where
+  pub accepted-all : Accepted c h
+  pub refuses : (s : List ℕ) → numberAt c h s ≡ 0 → ⊥
+  pub stays : (ss : List PlantSecond) → accepted c h ss ≡ h
 
 -- the shortest: second 0 with no kind on; second 1 too, with a call to 900 kW until 1,800, accepted as the signal is still 0 there
 abbrev pub callWhileOff : History
 callWhileOff = calling 1 (pos 900) 1800 ∷ inStatus 0 ∷ []
 
 pub record Claims : Type 0 where
-  pub every-list : (ss : List PlantSecond) → EveryList ss
+  -- from a fresh state, and from the one that accepted seconds leave, in this book and in closed ones
+  pub every-list : (ss : List PlantSecond) → EveryList [] [] ss
+  pub lists-after : (c : Closed) (h : History) → Accepted c h → (ss : List PlantSecond) → EveryList c h ss
+  -- with nothing closed every definition is 01's over the book's own seconds
+  pub fresh-book : (h : History) → FreshBook h
+  -- the state that is handed over is the one of the next book before its second 0, with this book's seconds as its past
+  pub handed-over : (c : Closed) (h : History) → handedOver (stateOf c h) ≡ stateOf (h ∷ c) []
+  -- a list of accepted seconds is cut once, after a multiple of 900: what follows is accepted in the second book too, with the rows of the one book
+  pub cut : (early late : History) → length early % quarterHour ≡ 0 → Accepted [] (late ++ early) → (x : Record) → recordNumberAt [] (late ++ early) x ≡ 0 → Cut early late x
   -- one second at the state that accepted seconds leave
-  pub over-past : (h : History) → Accepted h → (s : List ℕ) (m w : ℤ) → OverPast h s m w (stepIn (stateOf h) s m w)
-  pub row-holds : (h : History) → Accepted h → (x : Record) → recordNumberAt h x ≡ 0 → (m w : ℤ) → RowHolds h x m w
+  pub over-past : (c : Closed) (h : History) → Accepted c h → (s : List ℕ) (m w : ℤ) → OverPast c h s m w (stepIn (stateOf c h) s m w)
+  pub row-holds : (c : Closed) (h : History) → Accepted c h → (x : Record) → recordNumberAt c h x ≡ 0 → (m w : ℤ) → RowHolds c h x m w
   -- "A row's figures are signed 32-bit numbers", where sharing adds nothing; a book's rows in `book/Claims`
-  pub fits : (h : History) → Accepted h → (x : Record) → recordNumberAt h x ≡ 0 → Row32 (rowAt h x (pos 0) (pos 0))
+  pub fits : (c : Closed) (h : History) → Accepted c h → (x : Record) → recordNumberAt c h x ≡ 0 → Row32 (rowAt c h x (pos 0) (pos 0))
   -- for every past and every bytes
-  pub same-turned-down : (h : History) (s : List ℕ) → SameTurnedDown (numberAt h s) (baseNumberAt h s)
-  pub quarter-hour : (h : History) (s : List ℕ) → QuarterHour h s
+  pub same-turned-down : (c : Closed) (h : History) (s : List ℕ) → SameTurnedDown (numberAt c h s) (baseNumberAt c h s)
+  pub quarter-hour : (c : Closed) (h : History) (s : List ℕ) → QuarterHour c h s
   -- "bit 3 is never a kind"
   pub fault-no-kind : (n : ℕ) → bitsOf (n + 8) ≡ bitsOf n
-  pub stuck : Stuck callWhileOff
+  pub stuck : Stuck [] callWhileOff
   -- it is 26 alone that keeps mFRR from going on there
-  pub free-again : first (freeRulesAt callWhileOff (inStatus 4)) ≡ 0
+  pub free-again : first (freeRulesAt [] callWhileOff (inStatus 4)) ≡ 0

@@ -33,31 +33,38 @@ use Rattle.plant.specs.declared.Kinds.{Kinds}
 use Rattle.plant.specs.declared.PlantAnswer.the-variants as answer
 use Rattle.plant.specs.declared.PlantState.{PlantState}
 use Rattle.plant.specs.declared.PlantStep.{PlantStep}
-use Rattle.plant.specs.Seconds.{History, lastStatus, fcrSetpoint, fcrPast, afrrSecond, afrrPast, mfrrSecond, mfrrPast, setpointsWith}
+use Rattle.plant.specs.Seconds.{History, Closed, lastStatus, fcrSetpoint, fcrPast, afrrSecond, afrrPast, mfrrSecond, mfrrPast, setpointsWith}
 use Rattle.plant.specs.Refusals.{mostPower, recordNumber, offNumber, rulesWith, lengthRule, numberAt, Accepted, grown}
 use Rattle.plant.specs.Rows.{kindsWith, sharedDifference, rowBy, saidAt, answerAt, says, numberIn}
 
 -- ---- after a past
 
--- what the state holds after the past h
-unfoldable pub stateOf : History → PlantState
-stateOf h =
+-- what the state holds after the past h and the closed books c
+unfoldable pub stateOf : Closed → History → PlantState
+stateOf c h =
     record {
       seconds = length h;
-      fcr = fcr.stateOf (fcrPast h);
-      afrr = afrr.stateOf (afrrPast h);
-      mfrr = mfrr.stateOf (mfrrPast h);
-      «last_status» = lastStatus h;
+      fcr = fcr.stateOf (fcrPast c h);
+      afrr = afrr.stateOf (afrrPast c h);
+      mfrr = mfrr.stateOf (mfrrPast c h);
+      «last_status» = lastStatus c h;
     }
 
 -- the step r of a second of bytes s after the accepted seconds h: its answer is the one over them, and its state the one that they and, unless
 -- it is refused, this second leave
-pub record OverPast (h : History) (s : List ℕ) (m w : ℤ) (r : PlantStep) : Type 0 where
-  pub said : says (r .answer) ≡ saidAt h s m w
-  pub number : numberIn (r .answer) ≡ numberAt h s
-  pub answer : r .answer ≡ answerAt h s m w
-  pub state : r .state ≡ stateOf (grown h s)
-  pub stays : Accepted (grown h s)
+pub record OverPast (c : Closed) (h : History) (s : List ℕ) (m w : ℤ) (r : PlantStep) : Type 0 where
+  pub said : says (r .answer) ≡ saidAt c h s m w
+  pub number : numberIn (r .answer) ≡ numberAt c h s
+  pub answer : r .answer ≡ answerAt c h s m w
+  pub state : r .state ≡ stateOf c (grown c h s)
+  pub stays : Accepted c (grown c h s)
+
+-- ---- handed over (02, W7)
+
+-- "The closing state of one book shall open the next: setpoints, limits, status, calls and leftovers": nothing is counted yet, and no other time in a
+-- state is one of the book's, so nothing is to be moved back
+abbrev pub handedOver : PlantState → PlantState
+handedOver st = record { seconds = 0; fcr = st .fcr; afrr = st .afrr; mfrr = st .mfrr; «last_status» = st .«last_status» }
 
 -- ---- any state: its number
 
@@ -188,7 +195,7 @@ pub record Stepped (st : PlantState) (s : List ℕ) (m w : ℤ) (r : PlantStep) 
   -- its number is the first of one list of rules, 0 with a row
   pub number : numberIn (r .answer) ≡ first (rulesIn st s)
   -- where accepted seconds left the state: 01's figures or number over them, and the state that the longer list leaves
-  pub past : (h : History) → Accepted h → st ≡ stateOf h → OverPast h s m w r
+  pub past : (c : Closed) (h : History) → Accepted c h → st ≡ stateOf c h → OverPast c h s m w r
   -- "State unchanged"
   pub kept : (n : ℕ) → r .answer ≡ answer.Refused n → r .state ≡ st
   -- what callers need to go on

@@ -14,7 +14,7 @@ use Rattle.record.specs.declared.Record.{Record}
 use Rattle.row.specs.declared.KindRow.{KindRow}
 use Rattle.plant.specs.declared.Kinds.{Kinds}
 use Rattle.plant.specs.declared.Setpoints.{Setpoints}
-use Rattle.plant.specs.Seconds.{afrrSecond, setpointsWith}
+use Rattle.plant.specs.Seconds.{movedOn, afrrSecond, setpointsWith, setpointsAt}
 use Rattle.plant.specs.Refusals.{recordNumber, offNumber, rulesWith, recordNumberAt, lengthRule, numberAt}
 use Rattle.plant.specs.Rows.{kindsWith, sharedDifference, figuresOf}
 
@@ -59,6 +59,10 @@ calling c e D = fields (pos 0) (pos 0) (pos 0) (pos 0) (pos 0) (pos 0) e D (pos 
 -- the numbers of records of these statuses, at second t after the status `last`
 abbrev pub statuses : ℕ → ℕ → List ℕ → List ℕ
 statuses t last ns = map (λ (n : ℕ). recordNumber t last (inStatus n)) ns
+
+-- a quarter hour with no kind on
+abbrev pub quarter : List Record
+quarter = replicate 900 (inStatus 0)
 
 -- every rule from 2 on applies; all but 2, ..
 abbrev million : ℤ
@@ -129,7 +133,7 @@ pub record Values : Type 0 where
   -- at the multiples every change is free
   pub quarter-hours : map (λ (t : ℕ). recordNumber t 0 (inStatus 7)) (0 ∷ 1 ∷ 899 ∷ 900 ∷ 901 ∷ 1800 ∷ []) ≡ 0 ∷ 26 ∷ 26 ∷ 0 ∷ 26 ∷ 0 ∷ []
   -- the last status is the newest accepted second's, 0 before second 0
-  pub last-status : map (recordNumberAt (inStatus 1 ∷ [])) (inStatus 1 ∷ inStatus 0 ∷ inStatus 8 ∷ inStatus 2 ∷ []) ≡ 0 ∷ 26 ∷ 0 ∷ 26 ∷ []
+  pub last-status : map (recordNumberAt [] (inStatus 1 ∷ [])) (inStatus 1 ∷ inStatus 0 ∷ inStatus 8 ∷ inStatus 2 ∷ []) ≡ 0 ∷ 26 ∷ 0 ∷ 26 ∷ []
   pub seven :
       map (recordNumber 0 0)
       (calling 1 (pos 1) 1 ∷ calling 2 (pos 0) 0 ∷ calling 0 (pos 1) 0 ∷ calling 0 (negsuc 0) 0 ∷ calling 0 (pos 0) 1 ∷ [])
@@ -150,8 +154,13 @@ pub record Values : Type 0 where
       ∷ [])
       ≡ 11 ∷ 11 ∷ 24 ∷ 11 ∷ []
   -- mFRR off: its setpoint is 0 in the second of a first call, and not in the next one, with a call or without
-  pub off-at-a-call : recordNumberAt [] (calling 1 (pos 900) 1800) ≡ 0
-  pub off-in-a-call : map (recordNumberAt (calling 1 (pos 900) 1800 ∷ [])) (inStatus 0 ∷ calling 1 (pos 0) 1800 ∷ []) ≡ 25 ∷ 25 ∷ []
+  pub off-at-a-call : recordNumberAt [] [] (calling 1 (pos 900) 1800) ≡ 0
+  pub off-in-a-call : map (recordNumberAt [] (calling 1 (pos 900) 1800 ∷ [])) (inStatus 0 ∷ calling 1 (pos 0) 1800 ∷ []) ≡ 25 ∷ 25 ∷ []
+  -- after closed books of 900 seconds 1 and 9 look at the book's own count and end, 26 at no second 0; and a call of the closing book goes on
+  pub own-count : map (recordNumberAt (quarter ∷ []) []) (inStatus 7 ∷ calling 1 (pos 1) 900 ∷ calling 1 (pos 1) 3600 ∷ calling 1 (pos 1) 4500 ∷ []) ≡ 0 ∷ 0 ∷ 0 ∷ 9 ∷ []
+  pub goes-on : setpointsAt ((calling 1 (pos 900) 1800 ∷ []) ∷ []) [] (inStatus 4) ≡ setpoints (pos 0) (pos 0) (pos 1)
+  pub end-of-two-books : movedOn 900 (calling 1 (pos 1) 1800) ≡ calling 1 (pos 1) 2700
+  pub quiet-stays : movedOn 900 (inStatus 4) ≡ inStatus 4
   pub twelve : map (λ (n : ℕ). lengthRule (replicate n 0) .applies) (35 ∷ 36 ∷ 37 ∷ []) ≡ true ∷ false ∷ true ∷ []
   -- ---- their order
   pub one-first : recordNumber 90000 0 (broken (negsuc 0) (pos 5001) (pos 4000001) million 16) ≡ 1
@@ -171,7 +180,7 @@ pub record Values : Type 0 where
   pub groups :
       map (λ (x : Record). first (rulesWith 0 0 x (refuse 8 true ∷ []) (setpoints (pos 1) (pos 0) (pos 0)))) (calling 2 (pos 0) 0 ∷ calling 1 (pos 0) 0 ∷ [])
       ≡ 7 ∷ 8 ∷ []
-  pub twelve-first : numberAt [] (replicate 35 255) ≡ 12
+  pub twelve-first : numberAt [] [] (replicate 35 255) ≡ 12
   -- ---- what stands where
   pub on-first : kindsIn 1 ≡ kindsOn true false false
   pub on-second : kindsIn 2 ≡ kindsOn false true false

@@ -8,7 +8,7 @@ use Rattle.plant.specs.State as plant
 use Rattle.book.specs.declared.Book.{Book}
 use Rattle.book.specs.declared.BookAnswer.{BookAnswer}
 use Rattle.book.specs.declared.BookAnswer.the-variants as answer
-use Rattle.book.specs.Seconds.{BookSecond, History, unitBytes, pastOf}
+use Rattle.book.specs.Seconds.{BookSecond, History, Closed, unitBytes, pastOf}
 use Rattle.book.specs.Refusals.{numberAt, Accepted, grown}
 use Rattle.book.specs.Rows.{unitRowAt, aRowAt, bRowAt, answerAt, numberIn}
 use Rattle.book.specs.Run.{accepted}
@@ -23,25 +23,25 @@ use Rattle.report.specs.Text.{linesOf}
 use Rattle.report.proofs.Past.{tally-more}
 
 -- the seconds accepted so far, as the unit counts them
-pub counted : (h : History) → stateOf h .unit .seconds ≡ length h
+pub counted : (c : Closed) (h : History) → stateOf c h .unit .seconds ≡ length h
 unfolding stateOf plant.stateOf
-counted h = go h
+counted c h = go h
   where
     go : (l : History) → length (pastOf unitBytes l) ≡ length l
     go [] = refl
     go (s ∷ l) = ap suc (go l)
 
-pub grown-more : (h : History) (s : BookSecond) → numberAt h s ≡ 0 → grown h s ≡ s ∷ h
+pub grown-more : (c : Closed) (h : History) (s : BookSecond) → numberAt c h s ≡ 0 → grown c h s ≡ s ∷ h
 unfolding grown
-grown-more h s e = rw e
+grown-more c h s e = rw e
 
-pub grown-same : (h : History) (s : BookSecond) {n : ℕ} → numberAt h s ≡ suc n → grown h s ≡ h
+pub grown-same : (c : Closed) (h : History) (s : BookSecond) {n : ℕ} → numberAt c h s ≡ suc n → grown c h s ≡ h
 unfolding grown
-grown-same h s e = rw e
+grown-same c h s e = rw e
 
-rows-given : (h : History) (s : BookSecond) → numberAt h s ≡ 0 → answerAt h s ≡ answer.Rows (unitRowAt h s) (aRowAt h s) (bRowAt h s)
+rows-given : (c : Closed) (h : History) (s : BookSecond) → numberAt c h s ≡ 0 → answerAt c h s ≡ answer.Rows (unitRowAt c h s) (aRowAt c h s) (bRowAt c h s)
 unfolding answerAt
-rows-given h s e = let c = cleared h s e in rw (c .form, c .unit, c .a, c .b)
+rows-given c h s e = let d = cleared c h s e in rw (d .form, d .unit, d .a, d .b)
 
 turned-down : (p : Plan) (k : Kept) (b : Book) (a : BookAnswer) {n : ℕ} → numberIn a ≡ suc n → answered p k b a ≡ refusedAt (keep b (k .tally)) (suc n)
 turned-down p k b (answer.Rows u x y) e = absurd (omega (arith, e))
@@ -52,28 +52,28 @@ module _ (p : Plan) where
   abbrev second : List ℕ → BookSecond
   second s = secondOf (p .owner) s
 
-  pub taken : (h : History) (s : List ℕ) → Accepted h → numberAt h (second s) ≡ 0 → secondIn p (keptOf h) s ≡ record { text = linesOf (p .form) (length h) (unitRowAt h (second s)) (aRowAt h (second s)) (bRowAt h (second s)); kept = keptOf (second s ∷ h); verdict = verdict.Accepted }
+  pub taken : (c : Closed) (h : History) (s : List ℕ) → Accepted c h → numberAt c h (second s) ≡ 0 → secondIn p (keptOf c h) s ≡ record { text = linesOf (p .form) (length h) (unitRowAt c h (second s)) (aRowAt c h (second s)) (bRowAt c h (second s)); kept = keptOf c (second s ∷ h); verdict = verdict.Accepted }
   unfolding secondIn
-  taken h s f e =
-      let o = over-past h f (second s) in
-      rw (o .answer, o .book, rows-given h (second s) e, grown-more h (second s) e, counted h, tally-more h (second s))
+  taken c h s f e =
+      let o = over-past c h f (second s) in
+      rw (o .answer, o .book, rows-given c h (second s) e, grown-more c h (second s) e, counted c h, tally-more c h (second s))
 
-  pub refused : (h : History) (s : List ℕ) {n : ℕ} → Accepted h → numberAt h (second s) ≡ suc n → secondIn p (keptOf h) s ≡ refusedAt (keptOf h) (suc n)
+  pub refused : (c : Closed) (h : History) (s : List ℕ) {n : ℕ} → Accepted c h → numberAt c h (second s) ≡ suc n → secondIn p (keptOf c h) s ≡ refusedAt (keptOf c h) (suc n)
   unfolding secondIn
-  refused h s f e =
-      let o = over-past h f (second s) in
-      rw (o .book, grown-same h (second s) e) (turned-down p (keptOf h) (stateOf h) (stepIn (stateOf h) (second s) .answer) (o .number ∙ e))
+  refused c h s f e =
+      let o = over-past c h f (second s) in
+      rw (o .book, grown-same c h (second s) e) (turned-down p (keptOf c h) (stateOf c h) (stepIn (stateOf c h) (second s) .answer) (o .number ∙ e))
 
-  kept-second : (h : History) (s : List ℕ) → Accepted h → secondIn p (keptOf h) s .kept ≡ keptOf (grown h (second s))
-  kept-second h s f = go (numberAt h (second s)) refl
+  kept-second : (c : Closed) (h : History) (s : List ℕ) → Accepted c h → secondIn p (keptOf c h) s .kept ≡ keptOf c (grown c h (second s))
+  kept-second c h s f = go (numberAt c h (second s)) refl
     where
-      go : (n : ℕ) → numberAt h (second s) ≡ n → secondIn p (keptOf h) s .kept ≡ keptOf (grown h (second s))
-      go zero e = ap (λ (r : Ran). r .kept) (taken h s f e) ∙ ap keptOf (sym (grown-more h (second s) e))
-      go (suc n) e = ap (λ (r : Ran). r .kept) (refused h s f e) ∙ ap keptOf (sym (grown-same h (second s) e))
+      go : (n : ℕ) → numberAt c h (second s) ≡ n → secondIn p (keptOf c h) s .kept ≡ keptOf c (grown c h (second s))
+      go zero e = ap (λ (r : Ran). r .kept) (taken c h s f e) ∙ ap (keptOf c) (sym (grown-more c h (second s) e))
+      go (suc n) e = ap (λ (r : Ran). r .kept) (refused c h s f e) ∙ ap (keptOf c) (sym (grown-same c h (second s) e))
 
-pub kept-list : (f : Form) (ss : List BookSecond) (h : History) → Accepted h → keptAfter f (keptOf h) ss ≡ keptOf (accepted h ss)
+pub kept-list : (f : Form) (ss : List BookSecond) (c : Closed) (h : History) → Accepted c h → keptAfter f (keptOf c h) ss ≡ keptOf c (accepted c h ss)
 unfolding keptAfter accepted
-kept-list f [] h a = refl
-kept-list f (s ∷ ss) h a =
-    ap (λ (k : Kept). keptAfter f k ss) (kept-second (record { form = f; owner = s .owner; seconds = 0 }) h (s .bytes) a)
-    ∙ kept-list f ss (grown h s) (over-past h a s .stays)
+kept-list f [] c h a = refl
+kept-list f (s ∷ ss) c h a =
+    ap (λ (k : Kept). keptAfter f k ss) (kept-second (record { form = f; owner = s .owner; seconds = 0 }) c h (s .bytes) a)
+    ∙ kept-list f ss c (grown c h s) (over-past c h a s .stays)

@@ -14,7 +14,7 @@ use Rattle.sharing.specs.Shares.{someOn}
 use Rattle.sharing.specs.Rows.{kindsOn}
 use Rattle.plant.specs.Seconds as plant
 use Rattle.plant.specs.Claims.{kindList, errorAt, totalAt}
-use Rattle.book.specs.Seconds.{BookSecond, History, unitBytes, pastOf}
+use Rattle.book.specs.Seconds.{BookSecond, History, Closed, unitBytes, pastOf, closedOf}
 use Rattle.book.specs.Refusals.{numberAt, Accepted}
 use Rattle.book.specs.Rows.{Pool, poolA, poolB, addedTo, unitPoint, unitRowAt, aRowAt, bRowAt}
 use Rattle.book.specs.Run.{accepted}
@@ -26,20 +26,20 @@ use Rattle.report.specs.Running.{keep}
 use Rattle.report.specs.Counts.{keptOf, keptAfter}
 
 -- wherever a kind is on, a plant of row r has no line in its second t exactly when its error lies within the summed bands
-abbrev pub NoLine : plant.History → Record → ℤ → ℤ → ℕ → ℕ → Row → Type 0
-NoLine h x m w t letter r =
-    someOn (kindsOn (kindList h x)) ≡ true → (shortText t letter r ≡ []) ↔ (natAbs (errorAt h x m w) ≤ totalAt h x m w)
+abbrev pub NoLine : plant.Closed → plant.History → Record → ℤ → ℤ → ℕ → ℕ → Row → Type 0
+NoLine c h x m w t letter r =
+    someOn (kindsOn (kindList c h x)) ≡ true → (shortText t letter r ≡ []) ↔ (natAbs (errorAt c h x m w) ≤ totalAt c h x m w)
 
-abbrev pub PoolNoLine : Pool → ℕ → History → BookSecond → Row → Type 0
-PoolNoLine p letter h s r =
-    NoLine (pastOf (p .bytes) h) (recordOf (p .bytes (s .bytes))) (addedTo p s (unitRowAt h s)) (unitPoint (s .bytes)) (length h) letter r
+abbrev pub PoolNoLine : Pool → ℕ → Closed → History → BookSecond → Row → Type 0
+PoolNoLine p letter c h s r =
+    NoLine (closedOf (p .bytes) c) (pastOf (p .bytes) h) (recordOf (p .bytes (s .bytes))) (addedTo p s (unitRowAt c h s)) (unitPoint (s .bytes)) (length h) letter r
 
-pub record NoLines (h : History) (s : BookSecond) : Type 0 where
-  pub unit : NoLine (pastOf unitBytes h) (recordOf (unitBytes (s .bytes))) (pos 0) (pos 0) (length h) (code "U") (unitRowAt h s)
-  pub a : PoolNoLine poolA (code "A") h s (aRowAt h s)
-  pub b : PoolNoLine poolB (code "B") h s (bRowAt h s)
+pub record NoLines (c : Closed) (h : History) (s : BookSecond) : Type 0 where
+  pub unit : NoLine (closedOf unitBytes c) (pastOf unitBytes h) (recordOf (unitBytes (s .bytes))) (pos 0) (pos 0) (length h) (code "U") (unitRowAt c h s)
+  pub a : PoolNoLine poolA (code "A") c h s (aRowAt c h s)
+  pub b : PoolNoLine poolB (code "B") c h s (bRowAt c h s)
 
 pub record Claims : Type 0 where
-  pub no-line : (h : History) → Accepted h → (s : BookSecond) → numberAt h s ≡ 0 → NoLines h s
+  pub no-line : (c : Closed) (h : History) → Accepted c h → (s : BookSecond) → numberAt c h s ≡ 0 → NoLines c h s
   -- for every list of book seconds from a fresh book, refused ones included: the counts are the sums over the accepted ones (`tallyOf`), beside the book
-  pub every-list : (f : Form) (ss : List BookSecond) → keptAfter f (keep fresh zero) ss ≡ keptOf (accepted [] ss)
+  pub every-list : (f : Form) (ss : List BookSecond) → keptAfter f (keep fresh zero) ss ≡ keptOf [] (accepted [] [] ss)

@@ -1,5 +1,5 @@
--- How often, and by how much, each kind of each plant stood outside its band: sums over the accepted seconds, each second with those accepted
--- before it.
+-- How often, and by how much, each kind of each plant stood outside its band: sums over the seconds that a book accepted, each second with those
+-- accepted before it, in this book and in the closed ones c.
 use mathlib.Core.List.{List, [], _∷_}
 use Prim.Native.Nat.{ℕ, _+_}
 use Rattle.row.specs.declared.KindRow.{KindRow}
@@ -7,7 +7,7 @@ use Rattle.row.specs.declared.Row.{Row}
 use Rattle.row.specs.declared.side.KindCounts.{KindCounts}
 use Rattle.row.specs.declared.side.PlantCounts.{PlantCounts}
 use Rattle.row.specs.Side.{sideOf, onceBelow, onceAbove, kwBelow, kwAbove}
-use Rattle.book.specs.Seconds.{BookSecond, History}
+use Rattle.book.specs.Seconds.{BookSecond, History, Closed}
 use Rattle.book.specs.Rows.{unitRowAt, aRowAt, bRowAt}
 use Rattle.book.specs.State.{stateOf}
 use Rattle.tally.specs.declared.Tally.{Tally}
@@ -29,12 +29,12 @@ kindCounts k h =
 abbrev pub plantCounts : (History → BookSecond → Row) → History → PlantCounts
 plantCounts r h = record { fcr = kindCounts (λ p s. r p s .fcr) h; afrr = kindCounts (λ p s. r p s .afrr) h; mfrr = kindCounts (λ p s. r p s .mfrr) h }
 
-unfoldable pub tallyOf : History → Tally
-tallyOf h = record { unit = plantCounts unitRowAt h; a = plantCounts aRowAt h; b = plantCounts bRowAt h }
+unfoldable pub tallyOf : Closed → History → Tally
+tallyOf c h = record { unit = plantCounts (unitRowAt c) h; a = plantCounts (aRowAt c) h; b = plantCounts (bRowAt c) h }
 
 -- what is kept after the past h
-abbrev pub keptOf : History → Kept
-keptOf h = keep (stateOf h) (tallyOf h)
+abbrev pub keptOf : Closed → History → Kept
+keptOf c h = keep (stateOf c h) (tallyOf c h)
 
 -- what is kept after a list of seconds, refused ones included wherever they fall, each with its own owner byte
 unfoldable pub keptAfter : Form → Kept → List BookSecond → Kept

@@ -58,7 +58,7 @@ fn refused(book: Book, tally: Tally, used: usize, number: u8) -> Run
 }
 
 // One book second: its lines, or its refusal.
-fn run_second(
+pub fn run_second(
     book: Book,
     tally: Tally,
     used: usize,

@@ -1,9 +1,13 @@
 //! `generator SEED [FAMILY]` writes a book to standard output; `generator SEED long [SECONDS]` a long day;
 //! `generator name SEED [FAMILY]` says which family and case that is; `generator families` lists the families;
 //! `generator seeds` says how many seeds in a row make every broken case; `generator short-example` writes the shipped book;
-//! `generator meters SEED COUNT` writes records of meters, `generator meter-contents SEED COUNT` says what is among them.
+//! `generator meters SEED COUNT` writes records of meters, `generator meter-contents SEED COUNT` says what is among them;
+//! `generator cut SEED` writes a count and a book to be cut there, `generator cut-name SEED` says what that is,
+//! `generator cut-contents SEED COUNT` what is among those of COUNT seeds.
 
 use reference::maker::book_bytes;
+use reference::maker::cut_contents;
+use reference::maker::cuts;
 use reference::maker::example;
 use reference::maker::families::{long, make, seeds_for_all, Made, WHOLE};
 use reference::maker::meter_contents::counted;
@@ -12,7 +16,8 @@ use std::io::{self, Write};
 use std::process::exit;
 
 const USAGE: &str = "generator SEED [FAMILY [SECONDS]] | generator name SEED [FAMILY] | generator families | \
-    generator seeds | generator short-example | generator meters SEED COUNT | generator meter-contents SEED COUNT";
+    generator seeds | generator short-example | generator meters SEED COUNT | generator meter-contents SEED COUNT | \
+    generator cut SEED | generator cut-name SEED | generator cut-contents SEED COUNT";
 
 fn book(arguments: &[String]) -> Result<Made, String> {
     let seed: u64 = arguments.first().and_then(|seed| seed.parse().ok()).ok_or(USAGE)?;
@@ -23,12 +28,26 @@ fn book(arguments: &[String]) -> Result<Made, String> {
     }
 }
 
-fn meters(arguments: &[String]) -> Result<Vec<u8>, String> {
+/// The arguments as so many numbers.
+fn numbers<const COUNT: usize>(arguments: &[String]) -> Result<[u64; COUNT], String> {
     let numbers: Result<Vec<u64>, _> = arguments.iter().map(|number| number.parse()).collect();
-    match numbers.as_deref() {
-        Ok(&[seed, count]) => Ok(records(seed, count)),
-        _ => Err(USAGE.to_string()),
-    }
+    numbers.ok().and_then(|numbers| numbers.try_into().ok()).ok_or(USAGE.to_string())
+}
+
+fn meters(arguments: &[String]) -> Result<Vec<u8>, String> {
+    numbers(arguments).map(|[seed, count]| records(seed, count))
+}
+
+fn cut(arguments: &[String]) -> Result<cuts::Input, String> {
+    numbers(arguments).map(|[seed]| cuts::make(seed))
+}
+
+/// A line for each thing that is wanted of cut books: in how many of them it is, in how many it must be, and what it is.
+fn contents_of_cuts(arguments: &[String]) -> Result<Vec<u8>, String> {
+    let [first, count] = numbers(arguments)?;
+    let counted = cut_contents::counted((first..first + count).map(|seed| cuts::make(seed).bytes));
+    let lines = counted.into_iter().map(|(name, least, count)| format!("{} {} {}\n", count, least, name));
+    Ok(lines.collect::<String>().into_bytes())
 }
 
 /// A line for each thing that is wanted: how many records have it, and what it is.
@@ -45,6 +64,9 @@ fn main() {
         Some("seeds") => Ok(format!("{}\n", seeds_for_all()).into_bytes()),
         Some("meters") => meters(&arguments[1..]),
         Some("meter-contents") => meters(&arguments[1..]).map(|records| contents(&records)),
+        Some("cut") => cut(&arguments[1..]).map(|input| input.bytes),
+        Some("cut-name") => cut(&arguments[1..]).map(|input| (input.name + "\n").into_bytes()),
+        Some("cut-contents") => contents_of_cuts(&arguments[1..]),
         Some("name") => book(&arguments[1..]).map(|made| (made.name + "\n").into_bytes()),
         _ => book(&arguments).map(|made| made.bytes),
     };

@@ -407,7 +407,7 @@ fn second_of(place: Place, number: u8, count: usize, random: &mut Random) -> usi
 }
 
 /// Gives a sound record of second `now` the fault that has this number, in one of nine ways.
-fn spoil(record: &mut Record, number: u8, way: usize, now: usize, random: &mut Random) {
+pub(super) fn spoil(record: &mut Record, number: u8, way: usize, now: usize, random: &mut Random) {
     let now = now as i64;
     match number {
         2 => {
@@ -582,7 +582,7 @@ fn of_quarter(quarter: Quarter, owner: u8, random: &mut Random) -> Made {
 }
 
 /// A sound new call, where there is none yet.
-fn call(record: &mut Record, now: i64, random: &mut Random) {
+pub(super) fn call(record: &mut Record, now: i64, random: &mut Random) {
     if record.call == 1 {
         return;
     }
@@ -732,7 +732,7 @@ fn of_header(fault: Header, owner: u8, random: &mut Random) -> Made {
 }
 
 /// Gives block `number` (from 1) the fault, another one at each place; the check is renewed but where it is the fault.
-fn spoil_block(block: &mut [u8], number: usize, fault: Block, place: Place, random: &mut Random) {
+pub(super) fn spoil_block(block: &mut [u8], number: usize, fault: Block, place: Place, random: &mut Random) {
     let count = block[4];
     let number = number as u32;
     let by_place = |first: usize, middle: i64, last: usize| match place {

@@ -1,6 +1,8 @@
-//! Books, and records of meters, by seed, for comparing programs.
+//! Books, books that are cut, and records of meters, by seed, for comparing programs.
 
 pub mod broken;
+pub mod cut_contents;
+pub mod cuts;
 pub mod example;
 pub mod families;
 pub mod meter_contents;

@@ -49,6 +49,12 @@ impl Mover {
         self
     }
 
+    /// The first new value comes at this second; until then the one that it starts at stays.
+    pub fn moving_from(mut self, second: i64) -> Mover {
+        self.next = second;
+        self
+    }
+
     fn at(&mut self, now: i64, random: &mut Random) -> i64 {
         if now >= self.next {
             self.next = now + random.pick(self.gaps);
@@ -85,6 +91,8 @@ pub enum Calls {
     Every(i64, i64),
     /// Like `Every`, and then for a ninth leftover.
     Ninth(i64, i64, Ninth),
+    /// As `planned` has them, as long as there is a place.
+    Planned,
 }
 
 /// When a storm asks for a ninth leftover.
@@ -157,6 +165,8 @@ pub struct Track {
     pub next_call: i64,
     /// Which edge is in turn, for `Calls::Edges`.
     pub edge: usize,
+    /// Seconds and delivery ends, for `Calls::Planned`.
+    pub planned: Vec<(i64, i64)>,
     pub on: [bool; 3],
     /// Bit 3.
     pub fault: bool,
@@ -186,12 +196,21 @@ impl Track {
             errors: Errors::Noise(0),
             next_call: 0,
             edge: 0,
+            planned: Vec::new(),
             on: [true; 3],
             fault: false,
         }
     }
 
+    /// The delivery end that is planned for a call at `now`.
+    fn planned_end(&self, now: i64) -> Option<i64> {
+        self.planned.iter().find(|&&(at, _)| at == now).map(|&(_, end)| end)
+    }
+
     fn delivery_end(&self, now: i64, plant: &Plant, random: &mut Random) -> i64 {
+        if let Some(end) = self.planned_end(now) {
+            return end;
+        }
         let first = (now + 900 + 899) / 900 * 900;
         let last = (now + 3_600) / 900 * 900;
         match self.ends {
@@ -210,6 +229,7 @@ impl Track {
             Calls::Never => false,
             Calls::Once(at) => now == at,
             Calls::Edges | Calls::Every(..) => now >= self.next_call && !full,
+            Calls::Planned => self.planned_end(now).is_some() && !full,
             Calls::Ninth(_, _, ninth) => {
                 if now < self.next_call {
                     return false;
@@ -241,7 +261,7 @@ impl Track {
                 _ => end + random.within(2, 898),
             }
             .max(now + 1),
-            Calls::Never | Calls::Once(_) => i64::MAX,
+            Calls::Never | Calls::Once(_) | Calls::Planned => i64::MAX,
         };
         self.edge += 5;
     }
