@@ -186,8 +186,7 @@ chain-holds : (chain : List (List BookSecond)) (c : Closed) (h : History) → Ac
 chain-holds [] c h a = tt
 chain-holds (ss ∷ chain) c h a =
     let later = accepted c h ss in
-    let all = all-accepted ss c h a in
-    (
+    let all = all-accepted ss c h a in (
       list-holds c h a ss,
       rw (lasts ss c h a) (at-hand-over c later),
       rw (lasts ss c h a, next-book c later all) (chain-holds chain (closedHanded c later) (pastHanded later) (next-accepted c later all)),

@@ -23,7 +23,7 @@ use Rattle.report.specs.declared.run.Verdict.the-variants.{Accepted, Refused}
 use Rattle.report.specs.Running.{Kept, keep, secondIn, runOf, keptIn, KeptReady, Adds}
 use Rattle.report.specs.Text.{secondRoom}
 use Rattle.check_cut.specs.declared.seconds.Cut.{Cut}
-use Rattle.check_cut.specs.Cut.{secondMovedBack}
+use Rattle.book.specs.Cut.{bytesBack}
 use Rattle.check_cut.specs.Running.{CutRan, still, openedBy, handedIn, beforeIn, judgedIn, cutSecondIn, cutRoom, Going, CutAdds}
 
 -- ---- the handover
@@ -89,11 +89,11 @@ hands-over at cut h n f = rw (h, eq-eqb _ _ n) f
 -- ---- the second
 
 module _ (p : Plan) (at : ℕ) (cut : Cut) (s : List ℕ) {b e : List ℕ} {r : Run} where
-  pub in-next : cut .handed ≡ true → Adds secondRoom b e (cut .run .used) r (secondIn p (keptIn (cut .run)) (secondMovedBack at s)) → CutAdds secondRoom b e (cut .run .used) (record { run = r; handed = true }) (judgedIn p at (keptIn (cut .run)) (cut .handed) s)
+  pub in-next : cut .handed ≡ true → Adds secondRoom b e (cut .run .used) r (secondIn p (keptIn (cut .run)) (bytesBack at s)) → CutAdds secondRoom b e (cut .run .used) (record { run = r; handed = cut .handed }) (judgedIn p at (keptIn (cut .run)) (cut .handed) s)
   unfolding judgedIn
   in-next h f = rw h (record { adds = f; handed = refl })
 
-  pub in-first : cut .handed ≡ false → Adds secondRoom b e (cut .run .used) r (secondIn p (keptIn (cut .run)) s) → CutAdds secondRoom b e (cut .run .used) (record { run = r; handed = false }) (judgedIn p at (keptIn (cut .run)) (cut .handed) s)
+  pub in-first : cut .handed ≡ false → Adds secondRoom b e (cut .run .used) r (secondIn p (keptIn (cut .run)) s) → CutAdds secondRoom b e (cut .run .used) (record { run = r; handed = cut .handed }) (judgedIn p at (keptIn (cut .run)) (cut .handed) s)
   unfolding judgedIn
   in-first h f = rw h (record { adds = f; handed = refl })
 

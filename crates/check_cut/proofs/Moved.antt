@@ -9,7 +9,7 @@ use Rattle.codec.specs.Put.{Put}
 use Rattle.codec.proofs.Puts.{both, loosen}
 use Rattle.record.specs.Record.{size, bookSize, movedBack}
 use Rattle.book.specs.Seconds.{unitBytes, aBytes, bBytes}
-use Rattle.check_cut.specs.Cut.{secondMovedBack}
+use Rattle.book.specs.Cut.{bytesBack}
 
 pub filled : {m r : ℕ} {b e t : List ℕ} → Put m b e 0 r t → r ≡ length b → e ≡ t
 filled {b = b} {t = t} f all =
@@ -24,7 +24,6 @@ part-moved n {at} {r = r} {moved = moved} {b} {e} {s} whole room f is kept same 
     (rw (← all) put, omega (arith, g .next, kept, same, room))
 
 -- three of them fill a book second
-pub second-moved : (n : ℕ) (s : List ℕ) {p q r : ℕ} {b c d e u a x : List ℕ} → length b ≡ bookSize → u ≡ unitBytes s → a ≡ aBytes s → x ≡ bBytes s → Put size b c 0 p (movedBack n u) × (p ≡ 0 + size) → Put size c d p q (movedBack n a) × (q ≡ p + size) → Put size d e q r (movedBack n x) × (r ≡ q + size) → e ≡ secondMovedBack n s
-unfolding secondMovedBack
+pub second-moved : (n : ℕ) (s : List ℕ) {p q r : ℕ} {b c d e u a x : List ℕ} → length b ≡ bookSize → u ≡ unitBytes s → a ≡ aBytes s → x ≡ bBytes s → Put size b c 0 p (movedBack n u) × (p ≡ 0 + size) → Put size c d p q (movedBack n a) × (q ≡ p + size) → Put size d e q r (movedBack n x) × (r ≡ q + size) → e ≡ bytesBack n s
 second-moved n s whole eu ea ex f g h =
     rw (← eu, ← ea, ← ex) (filled (both (f .0) (both (g .0) (h .0))) (omega (arith, f .1, g .1, h .1, whole)))

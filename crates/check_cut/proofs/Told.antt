@@ -27,7 +27,8 @@ use Rattle.report.specs.Counts.{tallyOf, keptOf}
 use Rattle.report.proofs.Past.{tally-none}
 use Rattle.report.proofs.Kept.{counted, taken, refused}
 use Rattle.pieces.specs.Printed.{Judged, judgedBy, judged, lastText, bookSeconds}
-use Rattle.check_cut.specs.Cut.{secondMovedBack, bookText, nextBy, cutBy}
+use Rattle.book.specs.Cut.{bytesBack}
+use Rattle.check_cut.specs.Cut.{bookText, nextBy, cutBy}
 use Rattle.check_cut.specs.Running.{CutRan, still, followed, openedBy, handedIn, beforeIn, judgedIn, cutSecondIn, cutSecondsIn, lastBy, verdictOf}
 use Rattle.check_cut.proofs.Through.{afterText}
 use Rattle.check_cut.proofs.Parts.{ends, ends-after}
@@ -68,7 +69,7 @@ module _ (o t at : ℕ) where
   abbrev alone : Kept → Bool → List ℕ → CutRan
   alone k b s = record { ran = secondIn plan k s; handed = b }
 
-  next-second : (k : Kept) (s : List ℕ) → cutSecondIn plan at k true s ≡ alone k true (secondMovedBack at s)
+  next-second : (k : Kept) (s : List ℕ) → cutSecondIn plan at k true s ≡ alone k true (bytesBack at s)
   unfolding cutSecondIn beforeIn judgedIn
   next-second k s = refl
 
@@ -97,10 +98,10 @@ module _ (o t at : ℕ) where
   -- ---- the second book, after the closed ones c
 
   abbrev later : List ℕ → BookSecond
-  later s = second (secondMovedBack at s)
+  later s = second (bytesBack at s)
 
   abbrev moved : List (List ℕ) → List BookSecond
-  moved ss = bookSeconds o (map (secondMovedBack at) ss)
+  moved ss = bookSeconds o (map (bytesBack at) ss)
 
   pub in-next : (ss : List (List ℕ)) (c : Closed) (h : History) (m : ℕ) → Accepted c h → told (keptOf c h) true ss m ≡ bookText c (judged Figures c h (moved ss)) m
   unfolding judged Accepted
@@ -111,12 +112,12 @@ module _ (o t at : ℕ) where
       go zero e others =
           let lines = linesOf Figures (length h) (unitRowAt c h (later s)) (aRowAt c h (later s)) (bRowAt c h (later s)) in
           one-taken (keptOf c h) (keptOf c ((later s) ∷ h)) true s ss m lines
-          (next-second (keptOf c h) s ∙ ap (λ (r : Ran). record { ran = r; handed = true }) (taken plan c h (secondMovedBack at s) a e))
+          (next-second (keptOf c h) s ∙ ap (λ (r : Ran). record { ran = r; handed = true }) (taken plan c h (bytesBack at s) a e))
           ∙ ap (λ (l : List ℕ). lines ++ l) (others e)
           ∙ book-after c lines (judged Figures c ((later s) ∷ h) (moved ss)) m
       go (suc n) e others =
           one-refused (keptOf c h) true s ss m (suc n)
-          (next-second (keptOf c h) s ∙ ap (λ (r : Ran). record { ran = r; handed = true }) (refused plan c h (secondMovedBack at s) a e))
+          (next-second (keptOf c h) s ∙ ap (λ (r : Ran). record { ran = r; handed = true }) (refused plan c h (bytesBack at s) a e))
           ∙ last-is c h (suc n)
 
   -- ---- the handover
@@ -129,8 +130,8 @@ module _ (o t at : ℕ) where
   sum-first : (k j : Kept) (s : List ℕ) (ss : List (List ℕ)) (text : List ℕ) → beforeIn at k false ≡ record { ran = record { text = text; kept = j; verdict = verdict.Accepted }; handed = true } → cutSecondsIn plan at k false (s ∷ ss) ≡ afterText text (cutSecondsIn plan at j true (s ∷ ss))
   unfolding cutSecondsIn cutSecondIn judgedIn
   sum-first k j s ss text e =
-      let r = secondIn plan j (secondMovedBack at s) in
-      rw (e, handed-before j) (run-after text (alone j true (secondMovedBack at s)) (cutSecondsIn plan at (r .kept) true ss) (r .verdict))
+      let r = secondIn plan j (bytesBack at s) in
+      rw (e, handed-before j) (run-after text (alone j true (bytesBack at s)) (cutSecondsIn plan at (r .kept) true ss) (r .verdict))
 
   sum-then : (k j : Kept) (s : List ℕ) (ss : List (List ℕ)) (m : ℕ) (text : List ℕ) → beforeIn at k false ≡ record { ran = record { text = text; kept = j; verdict = verdict.Accepted }; handed = true } → told k false (s ∷ ss) m ≡ text ++ told j true (s ∷ ss) m
   sum-then k j s ss m text e =

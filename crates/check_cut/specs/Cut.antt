@@ -5,18 +5,14 @@ use Prim.Native.Nat.{ℕ, zero, suc}
 use lib.ListN.{length, take, drop}
 use Rattle.codec.specs.Little.{u32At}
 use Rattle.numbers.specs.Rules.{orElse}
-use Rattle.record.specs.Record.{movedBack}
-use Rattle.book.specs.Seconds.{BookSecond, History, Closed, unitBytes, aBytes, bBytes}
+use Rattle.book.specs.Seconds.{History, Closed}
+use Rattle.book.specs.Cut.{bytesBack}
 use Rattle.book.specs.HandOver.{handOverNumber}
 use Rattle.block.specs.Places.{blockSize}
 use Rattle.block.specs.Header.{headerNumber, ownerOf, secondsOf}
 use Rattle.block.specs.Book.{Held, blocksOf}
 use Rattle.report.specs.declared.Form.the-variants.{Figures}
 use Rattle.pieces.specs.Printed.{Judged, judged, lastText, bookSeconds}
-
--- a book second with the delivery ends of its calls moved back by n seconds
-unfoldable pub secondMovedBack : ℕ → List ℕ → List ℕ
-secondMovedBack n s = movedBack n (unitBytes s) ++ (movedBack n (aBytes s) ++ movedBack n (bBytes s))
 
 -- a book after the closed ones c whose seconds give j: their rows, and the last line, where m is the number of what follows them, 0 where nothing is
 -- wrong
@@ -27,7 +23,7 @@ bookText c j m = j .text ++ lastText (orElse (j .number) m) c (j .past)
 
 -- "with times moved back by the closed book's length": the seconds ss under the owner o, where h are those of the first book
 abbrev pub judgedNext : ℕ → ℕ → History → List (List ℕ) → Judged
-judgedNext o at h ss = judged Figures (h ∷ []) [] (bookSeconds o (map (secondMovedBack at) ss))
+judgedNext o at h ss = judged Figures (h ∷ []) [] (bookSeconds o (map (bytesBack at) ss))
 
 -- what follows the first book's sum line, by the number of its handover: "29 .., and no state is handed over"
 abbrev pub nextBy : ℕ → ℕ → ℕ → History → List (List ℕ) → ℕ → List ℕ

@@ -26,7 +26,8 @@ use Rattle.report.specs.Running.{Kept, keep, Ran, refusedAt, secondIn, after, k
 use Rattle.report.specs.Text.{secondRoom}
 use Rattle.check_cut.specs.declared.seconds.Cut.{Cut}
 use Rattle.check_cut.specs.declared.Opening.{Opening}
-use Rattle.check_cut.specs.Cut.{secondMovedBack, countSize}
+use Rattle.book.specs.Cut.{bytesBack}
+use Rattle.check_cut.specs.Cut.{countSize}
 
 -- ---- one second
 
@@ -59,7 +60,7 @@ beforeIn at k false = cond (eqb (k .book .unit .seconds) at) (handedIn k) (still
 
 -- the bytes of a second in the seconds of the book that is open
 abbrev pub bytesIn : Bool → ℕ → List ℕ → List ℕ
-bytesIn true at s = secondMovedBack at s
+bytesIn true at s = bytesBack at s
 bytesIn false at s = s
 
 unfoldable pub judgedIn : Plan → ℕ → Kept → Bool → List ℕ → CutRan

@@ -17,7 +17,7 @@ ghost use Rattle.block.specs.Block.{secondsFrom};
 ghost use Rattle.line.specs.Widths.{rowRoom};
 ghost use Rattle.report.specs.Text.{secondRoom};
 ghost use Rattle.report.specs.Running.{secondIn, keptIn, KeptReady, Adds};
-ghost use Rattle.check_cut.specs.Cut.{secondMovedBack};
+ghost use Rattle.book.specs.Cut.{bytesBack};
 ghost use Rattle.check_cut.specs.Running.{handedIn, beforeIn, judgedIn, cutSecondIn, cutSecondsIn, cutBlockIn, cutRoom, cutBlockRoom, Going, CutAdds};
 
 // Where it stands: the run of the book that is open, and whether that one was handed over.
@@ -40,7 +40,7 @@ fn put_moved(buf: &mut [u8], at: usize, bytes: &[u8], seconds: u32) -> usize
 // A book second so, U, A and B.
 fn put_second(buf: &mut [u8], bytes: &[u8], seconds: u32) -> usize
     requires { ⌜ (length (now bytes) ≡ bookSize) × (length (now buf) ≡ bookSize) ⌝ }
-    ensures { λ _. ⌜ now (buf .exit) ≡ secondMovedBack seconds (now (bytes .entry)) ⌝ }
+    ensures { λ _. ⌜ now (buf .exit) ≡ bytesBack seconds (now (bytes .entry)) ⌝ }
 {
     let a_at = record::SIZE;
     let b_at = 2 * record::SIZE;
@@ -52,7 +52,7 @@ fn put_second(buf: &mut [u8], bytes: &[u8], seconds: u32) -> usize
 // A second of the next book.
 fn run_moved(run: Run, plan: Plan, at: u32, bytes: &[u8], out: &mut [u8]) -> Run
     requires { ⌜ KeptReady (keptIn run) × (length (now bytes) ≡ bookSize) × (run .used + secondRoom ≤ length (now out)) ⌝ }
-    ensures { λ r. ⌜ Adds secondRoom (now (out .entry)) (now (out .exit)) (run .used) r (secondIn plan (keptIn run) (secondMovedBack at (now (bytes .entry)))) ⌝ }
+    ensures { λ r. ⌜ Adds secondRoom (now (out .entry)) (now (out .exit)) (run .used) r (secondIn plan (keptIn run) (bytesBack at (now (bytes .entry)))) ⌝ }
 {
     let mut moved = [0; record::BOOK_SIZE];
     put_second(&mut moved, bytes, at);
@@ -118,12 +118,12 @@ fn judge(cut: Cut, plan: Plan, at: u32, bytes: &[u8], out: &mut [u8]) -> Cut
     if cut.handed {
         return Cut {
             run: run_moved(run, plan, at, bytes, out),
-            handed: true,
+            handed: cut.handed,
         };
     }
     Cut {
         run: report::run_second(run.book, run.tally, run.used, plan, bytes, out),
-        handed: false,
+        handed: cut.handed,
     }
 }
 
