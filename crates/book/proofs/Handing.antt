@@ -5,12 +5,23 @@ use Prim.Native.Nat.{ℕ, _%_}
 use lib.Dec.{eqb}
 use Rattle.row.specs.declared.sums.Sums.{Sums}
 use Rattle.mfrr.specs.Signal.{quarterHour}
+use Rattle.plant.specs.declared.PlantState.{PlantState}
+use Rattle.plant.specs.State as plant
 use Rattle.book.specs.declared.Book.{Book}
 use Rattle.book.specs.declared.HandOverAnswer.the-variants.{Opened, Refused}
 use Rattle.book.specs.Sums.{noSums}
 use Rattle.book.specs.State.{SumsReady, Ready}
 use Rattle.book.specs.HandOver.{handOverNumber, handOverIn, Opening, HandedOver}
 use Rattle.book.proofs.Sizes.{sums-none}
+
+-- a plant's state that opens the next book
+abbrev Opens : PlantState → PlantState → Type 0
+Opens st r = (r ≡ plant.handedOver st) × plant.Ready r
+
+pub with-states :
+    {k : Book} {q : Sums} {u a b : PlantState} → Opens (k .unit) u → Opens (k .a) a → Opens (k .b) b
+    → Opening k q (record { unit = u; a = a; b = b; sums = q })
+with-states {q = q} eu ea eb = record { is = λ i. record { unit = eu .0 i; a = ea .0 i; b = eb .0 i; sums = q }; unit = eu .1; a = ea .1; b = eb .1 }
 
 -- w is what `is_whole` answers of the book's count
 module _ (k : Book) {w : Bool} (ew : w ≡ eqb (k .unit .seconds % quarterHour) 0) where
