@@ -14,6 +14,7 @@ use Rattle.book.specs.declared.BookAnswer.the-variants.{RefusedBy}
 use Rattle.book.specs.declared.Plant.the-variants.{U, A, B}
 use Rattle.book.specs.Seconds.{BookSecond, unitBytes, aBytes, bBytes}
 use Rattle.book.specs.Refusals.{formNumber}
+use Rattle.book.specs.HandOver.{handOverNumber}
 use Rattle.book.specs.Rows.{Said, refused, refusedBy, valuesOf, soldByA, soldByB, answerBy, saidBy}
 
 -- n bytes 0, with an owner byte
@@ -48,6 +49,8 @@ pub record Values : Type 0 where
   pub twelve : map (λ (n : ℕ). formNumber (zeros 7 n)) (107 ∷ 108 ∷ 109 ∷ []) ≡ 12 ∷ 0 ∷ 12 ∷ []
   pub sixteen : formNumber (zeros 8 108) ≡ 16
   pub twelve-first : formNumber (zeros 8 107) ≡ 12
+  -- 29: 0 seconds are a multiple of 900
+  pub twenty-nine : map handOverNumber (0 ∷ 899 ∷ 900 ∷ 901 ∷ 1800 ∷ []) ≡ 0 ∷ 29 ∷ 0 ∷ 29 ∷ 0 ∷ []
   -- U, A, B in that order, and the plant that is named
   pub names-unit : answered 4 5 6 ≡ RefusedBy U 4
   pub names-a : answered 0 5 6 ≡ RefusedBy A 5

@@ -12,7 +12,8 @@ use Rattle.book.specs.Refusals.{numberAt, Accepted}
 use Rattle.book.specs.Rows.{unitRowAt, aRowAt, bRowAt}
 use Rattle.book.specs.State.{stateOf, secondOf}
 use Rattle.book.specs.HandOver.{handOverNumber, closedHanded, pastHanded}
-use Rattle.book.proofs.Claims.{handed, next-accepted}
+use Rattle.book.proofs.Claims.{next-accepted}
+use Rattle.book.proofs.Handing.{handed}
 use Rattle.line.specs.Line.{sumText}
 use Rattle.report.specs.declared.Form.the-variants.{Figures}
 use Rattle.report.specs.declared.run.Plan.{Plan}
