@@ -31,6 +31,20 @@ pub fn row_lines(second: usize, rows: &[Row; 3]) -> String {
     lines
 }
 
+/// One line a plant with what was shared: error, T, then tolerance, rounded-down share, remainder, extra kW of each kind.
+pub fn share_lines(second: usize, rows: &[Row; 3]) -> String {
+    let mut lines = String::new();
+    for (name, row) in NAMES.iter().zip(rows) {
+        lines += &format!("{} {} {} {}", second, name, row.error, row.total);
+        for kind in &row.kinds {
+            let part = kind.part;
+            lines += &format!(" {} {} {} {}", kind.tolerance, part.share, part.remainder, part.extra as u8);
+        }
+        lines += "\n";
+    }
+    lines
+}
+
 pub fn sum_line(sums: &Sums) -> String {
     format!("sum A {} B {} open {} due {}\n", sums.a, sums.b, sums.open, sums.due)
 }

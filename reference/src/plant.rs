@@ -2,7 +2,8 @@
 
 use crate::power::{Band, Limits};
 use crate::record::{self, Record};
-use crate::{afrr, fcr, mfrr, sharing};
+use crate::sharing::{parts, Part};
+use crate::{afrr, fcr, mfrr};
 
 /// The most seconds that a plant takes.
 pub const MOST_SECONDS: usize = 90_000;
@@ -12,15 +13,21 @@ pub const MOST_SECONDS: usize = 90_000;
 pub struct Kind {
     pub setpoint: i64,
     pub band: Band,
+    /// In the error's direction.
+    pub tolerance: i64,
+    /// Of the error's magnitude.
+    pub part: Part,
     pub share: i64,
     pub actual: i64,
 }
 
-/// A plant's row: FCR, aFRR, mFRR, then open.
+/// A plant's row: FCR, aFRR, mFRR, then open; and what was shared, the error and T.
 #[derive(Clone, Copy, Debug, Default, PartialEq)]
 pub struct Row {
     pub kinds: [Kind; 3],
     pub open: i64,
+    pub error: i64,
+    pub total: i64,
 }
 
 /// A status: bits 0 to 2 are the kinds, bit 3 marks a technical fault and is never a kind.
@@ -180,11 +187,12 @@ impl Plant {
     }
 }
 
-/// The tolerances in the error's direction; 0 for a kind off.
+/// The tolerances in the error's direction; 0 for a kind off. An error of 0 has no direction, and its shares are 0 whatever the
+/// tolerances are; those above the setpoints are taken (docs/DECISIONS.md, 57).
 pub fn tolerances(error: i64, on: [bool; 3], setpoints: [i64; 3], bands: [Band; 3]) -> [i64; 3] {
     let mut tolerances = [0; 3];
     for kind in 0..3 {
-        if on[kind] && error > 0 {
+        if on[kind] && error >= 0 {
             tolerances[kind] = bands[kind].high - setpoints[kind];
         } else if on[kind] {
             tolerances[kind] = setpoints[kind] - bands[kind].low;
@@ -198,6 +206,7 @@ pub fn row(measured: i64, working_point: i64, on: [bool; 3], setpoints: [i64; 3]
     let mut row = Row::default();
     if on == [false; 3] {
         row.open = measured - working_point;
+        row.error = row.open;
         return row;
     }
     let mut error = measured - working_point;
@@ -209,13 +218,17 @@ pub fn row(measured: i64, working_point: i64, on: [bool; 3], setpoints: [i64; 3]
         }
     }
     let tolerances = tolerances(error, on, setpoints, bands);
-    let shares = sharing::shares(error.abs(), tolerances, on);
+    let parts = parts(error.abs(), tolerances, on);
+    row.error = error;
+    row.total = tolerances.iter().sum();
     for kind in 0..3 {
         if on[kind] {
-            let share = error.signum() * shares[kind];
+            let share = error.signum() * parts[kind].whole();
             row.kinds[kind] = Kind {
                 setpoint: setpoints[kind],
                 band: bands[kind],
+                tolerance: tolerances[kind],
+                part: parts[kind],
                 share,
                 actual: setpoints[kind] + share,
             };

@@ -9,7 +9,7 @@ use reference::maker::{second_bytes, Second};
 use reference::plant::{Plant, Row};
 use reference::power::{Limits, GRAINS};
 use reference::record::Record;
-use reference::sharing;
+use reference::sharing::{parts, Part};
 
 fn alone(unit: Record) -> Second {
     [unit, Record::default(), Record::default()]
@@ -69,7 +69,7 @@ fn weighting_both_directions_tolerances() {
     assert_eq!(shares(&given), [21, 10, 0]);
     let widths = given.kinds.map(|kind| kind.band.high - kind.band.low);
     let error = shares(&given).iter().sum();
-    assert_eq!(sharing::shares(error, widths, [true, true, false]), [17, 14, 0]);
+    assert_eq!(parts(error, widths, [true, true, false]).map(Part::whole), [17, 14, 0]);
 }
 
 /// The full case: with 4,931 kW for both pools A gets -69 and B -49, the unit's error twice.

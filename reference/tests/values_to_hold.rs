@@ -8,7 +8,7 @@ use reference::maker::book_bytes;
 use reference::plant::{Plant, Row};
 use reference::program::output_of;
 use reference::record::Record;
-use reference::sharing::shares;
+use reference::sharing::{parts, Part};
 use reference::{fcr, mfrr, power};
 
 /// The row of a plant's next second, on its own.
@@ -116,6 +116,11 @@ fn mfrr_call() {
             _ => {}
         }
     }
+}
+
+/// The shares with their extra kW.
+fn shares(magnitude: i64, tolerances: [i64; 3], on: [bool; 3]) -> [i64; 3] {
+    parts(magnitude, tolerances, on).map(Part::whole)
 }
 
 /// "Tolerances 5, 5, error 1: 1, 0. 1, 1, 1, error 4: 2, 1, 1."

@@ -17,16 +17,18 @@ use Rattle.plant.proofs.Claims as plant-claims
 use Rattle.book.specs.declared.Book.{Book}
 use Rattle.book.specs.Seconds.{BookSecond, History, Closed, unitBytes, aBytes, bBytes, pastOf, closedOf}
 use Rattle.book.specs.Refusals.{numberAt, AllClosed, Accepted, grownBy, grown}
-use Rattle.book.specs.Rows.{unitRowAt, aRowAt, bRowAt, answerAt}
+use Rattle.book.specs.Rows.{unitRowAt, poolRowAt, aRowAt, bRowAt, answerAt}
 use Rattle.book.specs.Sums.{sumA, sumB, sumOpen, sumDue, sumsOf, noSums}
 use Rattle.book.specs.State.{fresh, stateOf, sumsWith, SumsReady}
 use Rattle.book.specs.HandOver.{handOverNumber, handedOver, handOverBy, handOverIn, closedBy, closedHanded, pastBy, pastHanded}
 use Rattle.book.specs.Run.{bookAfter, accepted}
-use Rattle.book.specs.Claims.{AtSecond, EachSecond, Balanced, ListHolds, Claims, AtHandOver, ChainHolds, BookClaims}
+use Rattle.book.specs.Claims.{AtSecond, EachSecond, Balanced, ListHolds, Claims, ChainHolds, BookClaims}
 use Rattle.book.proofs.Sizes.{sums-none, sums-more, sums-fit}
 use Rattle.book.proofs.Past.{cleared, unit-accepted, still-accepted, over-past}
 use Rattle.book.proofs.Holds.{rows-hold, summed}
+use Rattle.book.specs.Fresh.{FreshBook}
 use Rattle.book.proofs.Cut.{cut}
+use Rattle.book.proofs.Handing.{handed, number-is, at-hand-over}
 use Rattle.book.proofs.Balance.{second-balance}
 
 -- ---- the book after a list
@@ -133,30 +135,7 @@ claims ss = subst (λ (k : Book). ListHolds k [] [] ss) fresh-is (list-holds [] 
 
 -- ---- and for every chain of lists and handovers
 
-pub handed : (c : Closed) (h : History) → handedOver (stateOf c h) ≡ stateOf (h ∷ c) []
-unfolding stateOf sumsOf
-handed c h =
-    λ i. record {
-      unit = plant-claims.claims .handed-over (closedOf unitBytes c) (pastOf unitBytes h) i;
-      a = plant-claims.claims .handed-over (closedOf aBytes c) (pastOf aBytes h) i;
-      b = plant-claims.claims .handed-over (closedOf bBytes c) (pastOf bBytes h) i;
-      sums = noSums;
-    }
-
--- the book's count is that of its accepted seconds
-number-is : (c : Closed) (h : History) → handOverIn (stateOf c h) ≡ handOverBy (handOverNumber (length h)) (stateOf c h)
-unfolding handOverIn stateOf plant-state.stateOf
-number-is c h = ap (λ (t : ℕ). handOverBy (handOverNumber t) (stateOf c h)) (length-map h _)
-
-at-hand-over : (c : Closed) (h : History) → AtHandOver (stateOf c h) c h
-unfolding handOverNumber
-at-hand-over c h =
-    record {
-      refused = λ n. number-is c h ∙ rw (ne-eqb _ _ n);
-      opened = λ e. number-is c h ∙ rw (eq-eqb _ _ e, handed c h);
-    }
-
-whole : (t : ℕ) → handOverNumber t ≡ 0 → t % quarterHour ≡ 0
+pub whole : (t : ℕ) → handOverNumber t ≡ 0 → t % quarterHour ≡ 0
 unfolding handOverNumber
 whole t e = go (eqb (t % quarterHour) 0) refl e
   where
@@ -195,5 +174,10 @@ chain-holds (ss ∷ chain) c h a =
 pub chains : (chain : List (List BookSecond)) → ChainHolds fresh [] [] chain
 chains chain = subst (λ (k : Book). ChainHolds k [] [] chain) fresh-is (chain-holds chain [] [] none-accepted)
 
+fresh-book : (h : History) → FreshBook h
+unfolding numberAt unitRowAt poolRowAt stateOf Accepted
+fresh-book h =
+    record { number = λ s. refl; unit-row = λ s. refl; pool-row = λ p s. refl; state = refl; accepted = λ s. ((λ a. a), (λ a. a)) }
+
 pub book-claims : BookClaims
-book-claims = record { every-list = claims; every-chain = chains; every-cut = λ early late whole a. cut early whole late a }
+book-claims = record { every-list = claims; every-chain = chains; fresh-book = fresh-book; every-cut = λ early late whole a. cut early whole late a }

@@ -2,16 +2,18 @@
 use mathlib.Core.Path.{refl}
 use Rattle.record.specs.Record.{bitsOf}
 use Rattle.book.specs.Refusals.{formNumber}
+use Rattle.book.specs.HandOver.{handOverNumber}
 use Rattle.book.specs.Rows.{valuesOf}
 use Rattle.book.specs.Values.{Values}
 
 values : Values
-unfolding bitsOf formNumber valuesOf
+unfolding bitsOf formNumber handOverNumber valuesOf
 values =
     record {
       twelve = refl;
       sixteen = refl;
       twelve-first = refl;
+      twenty-nine = refl;
       names-unit = refl;
       names-a = refl;
       names-b = refl;

@@ -11,17 +11,17 @@ use Rattle.row.specs.Fits.{Row32, Sums64}
 use Rattle.plant.specs.Claims.{RowHolds}
 use Rattle.book.specs.declared.Book.{Book}
 use Rattle.book.specs.declared.BookAnswer.the-variants.{Rows}
-use Rattle.book.specs.declared.HandOverAnswer.the-variants.{Opened, Refused}
 use Rattle.book.specs.Seconds.{BookSecond, History, Closed, unitBytes, pastOf, closedOf}
 use Rattle.book.specs.Refusals.{numberAt, Accepted, grown}
 use Rattle.book.specs.Rows.{Pool, poolA, poolB, addedTo, unitPoint, unitRowAt, aRowAt, bRowAt}
 use Rattle.book.specs.Sums.{sumA, sumB, sumOpen, sumDue}
-use Rattle.book.specs.HandOver.{handOverIn, closedHanded, pastHanded}
+use Rattle.book.specs.HandOver.{handOverIn, closedHanded, pastHanded, AtHandOver}
 use Rattle.book.specs.State.{fresh, stateOf, OverPast, stepIn}
 use Rattle.book.specs.Run.{bookAfter, accepted}
 use Rattle.book.specs.Cut.{Cut}
+use Rattle.book.specs.Fresh.{FreshBook}
 
--- what holds of a pool's row in second s after the past h and the closed books c
+-- what holds of a pool's row in second s after the closed books c and the seconds h
 abbrev pub PoolHolds : Pool → Closed → History → BookSecond → Type 0
 PoolHolds p c h s =
     RowHolds (closedOf (p .bytes) c) (pastOf (p .bytes) h) (recordOf (p .bytes (s .bytes))) (addedTo p s (unitRowAt c h s)) (unitPoint (s .bytes))
@@ -78,14 +78,7 @@ Claims ss = ListHolds fresh [] [] ss
 
 -- ---- a chain of lists, the book handed over after each
 
--- the handover of the book k, where h are its accepted seconds after the closed books c
-pub record AtHandOver (k : Book) (c : Closed) (h : History) : Type 0 where
-  -- "29 when the closing book's length isn't a multiple of 900, and no state is handed over"
-  pub refused : (length h % quarterHour ≡ 0 → ⊥) → handOverIn k ≡ record { answer = Refused 29; book = k }
-  -- else the next book opens with nothing accepted, and its past is the closed books' seconds
-  pub opened : length h % quarterHour ≡ 0 → handOverIn k ≡ record { answer = Opened; book = stateOf (h ∷ c) [] }
-
--- "for every chain of lists and handovers": after each list, which may be empty, comes a handover; one that is refused leaves the book as it was
+-- a chain of lists and handovers (D56): after each list, which may be empty, comes a handover; one that is refused leaves the book as it was
 abbrev pub ChainHolds : Book → Closed → History → List (List BookSecond) → Type 0
 ChainHolds k c h [] = Unit
 ChainHolds k c h (ss ∷ chain) =
@@ -99,5 +92,7 @@ pub record BookClaims : Type 0 where
   pub every-list : (ss : List BookSecond) → Claims ss
   -- from a fresh book
   pub every-chain : (chain : List (List BookSecond)) → ChainHolds fresh [] [] chain
+  -- with nothing closed each is 01's over the book's own seconds; what is shared and refused there is said of a plant (`fresh-book` of plant/specs/Claims.antt)
+  pub fresh-book : (h : History) → FreshBook h
   -- "Say a list of accepted seconds .. is cut once, after a multiple of 900": whatever its owner bytes; that it has at most 90,000 follows from 1
   pub every-cut : (early late : History) → length early % quarterHour ≡ 0 → Accepted [] (late ++ early) → Cut early late

@@ -14,7 +14,7 @@ use Rattle.book.specs.declared.HandOverAnswer.{HandOverAnswer}
 use Rattle.book.specs.declared.HandOverAnswer.the-variants.{Opened, Refused}
 use Rattle.book.specs.Seconds.{History, Closed}
 use Rattle.book.specs.Sums.{noSums}
-use Rattle.book.specs.State.{Ready}
+use Rattle.book.specs.State.{stateOf, Ready}
 
 -- "29 when the closing book's length isn't a multiple of 900": its length t is the seconds that it accepted
 abbrev pub handOverRules : ℕ → List Rule
@@ -59,6 +59,13 @@ pastBy (suc n) h = h
 unfoldable pub pastHanded : History → History
 pastHanded h = pastBy (handOverNumber (length h)) h
 
+-- the handover of the book k, where h are its accepted seconds after the closed books c
+pub record AtHandOver (k : Book) (c : Closed) (h : History) : Type 0 where
+  -- "29 when the closing book's length isn't a multiple of 900, and no state is handed over"
+  pub refused : (length h % quarterHour ≡ 0 → ⊥) → handOverIn k ≡ record { answer = Refused 29; book = k }
+  -- else the next book opens with nothing accepted, and its past is the closed books' seconds
+  pub opened : length h % quarterHour ≡ 0 → handOverIn k ≡ record { answer = Opened; book = stateOf (h ∷ c) [] }
+
 -- what the operations ensure
 
 pub record Opening (k : Book) (q : Sums) (r : Book) : Type 0 where
@@ -70,5 +77,7 @@ pub record Opening (k : Book) (q : Sums) (r : Book) : Type 0 where
 pub record HandedOver (k : Book) (r : HandOver) : Type 0 where
   pub is : r ≡ handOverIn k
   pub number : handOverNumberIn (r .answer) ≡ handOverNumber (k .unit .seconds)
+  -- where accepted seconds left the book: 29 by their number, or the book that has them as its past
+  pub past : (c : Closed) (h : History) → k ≡ stateOf c h → AtHandOver k c h
   -- what callers need to go on
   pub ready : Ready (r .book)

@@ -6,6 +6,7 @@ pub mod State
 pub mod HandOver
 pub mod Run
 pub mod Cut
+pub mod Fresh
 pub mod Claims
 pub mod List
 pub mod Values

@@ -27,7 +27,7 @@ aNumber c h s = plant.numberAt (closedOf aBytes c) (pastOf aBytes h) (aBytes (s 
 abbrev pub bNumber : Closed → History → BookSecond → ℕ
 bNumber c h s = plant.numberAt (closedOf bBytes c) (pastOf bBytes h) (bBytes (s .bytes))
 
--- the first number that applies, 0 where the second is accepted after the past h and the closed books c
+-- the first number that applies, 0 where the second is accepted after the closed books c and the seconds h
 unfoldable pub numberAt : Closed → History → BookSecond → ℕ
 numberAt c h s = orElse (formNumber s) (orElse (unitNumber c h s) (orElse (aNumber c h s) (bNumber c h s)))
 

@@ -34,7 +34,7 @@ soldByA o = others (bitsOf o)
 abbrev pub soldByB : ℕ → KindBits
 soldByB o = bitsOf o
 
--- ---- the rows of second s after the past h and the closed books c
+-- ---- the rows of second s after the closed books c and the seconds h
 
 unfoldable pub unitRowAt : Closed → History → BookSecond → Row
 unitRowAt c h s = plant.rowAt (closedOf unitBytes c) (pastOf unitBytes h) (recordOf (unitBytes (s .bytes))) (pos 0) (pos 0)
@@ -96,7 +96,7 @@ pub data Said : Type 0 where
 abbrev pub bookFigures : Row → Row → Row → List ℤ
 bookFigures u a b = plant.figuresOf u ++ (plant.figuresOf a ++ plant.figuresOf b)
 
--- what is said of second s after the past h
+-- what is said of second s after the closed books c and the seconds h
 abbrev pub saidBy : ℕ → ℕ → ℕ → ℕ → List ℤ → Said
 saidBy (suc n) nu na nb fs = refused (suc n)
 saidBy zero (suc n) na nb fs = refusedBy U (suc n)

@@ -38,7 +38,7 @@ secondOf o s = record { owner = o; bytes = s }
 unfoldable pub fresh : Book
 fresh = record { unit = plant.stateOf [] []; a = plant.stateOf [] []; b = plant.stateOf [] []; sums = noSums }
 
--- after the past h and the closed books c: each plant's state is the one that its own accepted seconds leave, and the kept sums are the four
+-- after the closed books c and the seconds h: each plant's state is the one that its own accepted seconds leave, and the kept sums are the four
 unfoldable pub stateOf : Closed → History → Book
 stateOf c h =
     record {

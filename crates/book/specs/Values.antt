@@ -8,12 +8,13 @@ use lib.ListN.{replicate, set}
 use Rattle.power.specs.Units.{kw}
 use Rattle.row.specs.declared.KindRow.{KindRow}
 use Rattle.row.specs.declared.Row.{Row}
-use Rattle.row.specs.Row.{offRow}
+use Rattle.row.specs.Row.{offRounding, offRow}
 use Rattle.book.specs.declared.BookAnswer.{BookAnswer}
 use Rattle.book.specs.declared.BookAnswer.the-variants.{RefusedBy}
 use Rattle.book.specs.declared.Plant.the-variants.{U, A, B}
 use Rattle.book.specs.Seconds.{BookSecond, unitBytes, aBytes, bBytes}
 use Rattle.book.specs.Refusals.{formNumber}
+use Rattle.book.specs.HandOver.{handOverNumber}
 use Rattle.book.specs.Rows.{Said, refused, refusedBy, valuesOf, soldByA, soldByB, answerBy, saidBy}
 
 -- n bytes 0, with an owner byte
@@ -29,10 +30,10 @@ first36 n = set (replicate 36 0) 0 n
 
 -- a row by its actual values and open
 abbrev kindOf : ℤ → KindRow
-kindOf v = record { setpoint = kw (pos 0); band = offRow .band; share = kw (pos 0); actual = kw v }
+kindOf v = record { setpoint = kw (pos 0); band = offRow .band; share = kw (pos 0); actual = kw v; rounding = offRounding }
 
 abbrev pub rowOf : ℤ → ℤ → ℤ → ℤ → Row
-rowOf f a m o = record { fcr = kindOf f; afrr = kindOf a; mfrr = kindOf m; «open» = kw o }
+rowOf f a m o = record { fcr = kindOf f; afrr = kindOf a; mfrr = kindOf m; «open» = kw o; error = kw (pos 0); total = 0 }
 
 abbrev none : Row
 none = rowOf (pos 0) (pos 0) (pos 0) (pos 0)
@@ -48,6 +49,8 @@ pub record Values : Type 0 where
   pub twelve : map (λ (n : ℕ). formNumber (zeros 7 n)) (107 ∷ 108 ∷ 109 ∷ []) ≡ 12 ∷ 0 ∷ 12 ∷ []
   pub sixteen : formNumber (zeros 8 108) ≡ 16
   pub twelve-first : formNumber (zeros 8 107) ≡ 12
+  -- 29: 0 seconds are a multiple of 900
+  pub twenty-nine : map handOverNumber (0 ∷ 899 ∷ 900 ∷ 901 ∷ 1800 ∷ []) ≡ 0 ∷ 29 ∷ 0 ∷ 29 ∷ 0 ∷ []
   -- U, A, B in that order, and the plant that is named
   pub names-unit : answered 4 5 6 ≡ RefusedBy U 4
   pub names-a : answered 0 5 6 ≡ RefusedBy A 5

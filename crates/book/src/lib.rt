@@ -116,7 +116,7 @@ impl Book {
         }
     }
 
-    // The book that opens with this one's plants, and with the sums given.
+    // The book that opens with this one's plants, and with the sums given: a parameter, so that which sums these are stands in one place.
     fn opening(self, sums: Sums) -> Book
         requires { ⌜ Ready self ⌝ }
         ensures { λ r. ⌜ Opening self sums r ⌝ }

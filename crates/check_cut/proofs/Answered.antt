@@ -2,7 +2,7 @@
 use mathlib.Core.Path.{_≡_, refl, sym, ap, _∙_}
 use mathlib.Core.Bool.{Bool}
 use mathlib.Core.List.{List, [], _∷_}
-use Prim.Native.Nat.{ℕ, zero, suc, _+_, _≤_}
+use Prim.Native.Nat.{ℕ, zero, suc, _≤_}
 use native.Mathlib.Omega.{arith}
 use lib.ListN.{length}
 use Rattle.block.specs.declared.Block.{Block}
@@ -15,7 +15,7 @@ use Rattle.report.specs.declared.run.Plan.{Plan}
 use Rattle.report.specs.declared.run.Verdict.the-variants.{Refused}
 use Rattle.report.specs.Running.{Kept, refusedAt, runOf, keptIn}
 use Rattle.check_cut.specs.declared.seconds.Cut.{Cut}
-use Rattle.check_cut.specs.Running.{CutRan, cutSecondsIn, blockBy, cutBlockIn, cutBlockRoom, Going, CutAdds}
+use Rattle.check_cut.specs.Running.{cutSecondsIn, blockBy, cutBlockIn, cutBlockRoom, Going, CutAdds}
 
 module _ (p : Plan) (at n : ℕ) (s : List ℕ) where
   pub in-turn : {r : Block} {m : ℕ} (k : Kept) (was : Bool) → r ≡ reader.Seconds m → blockSays r ≡ blockOf s (p .seconds) n → cutBlockIn p at n k was s ≡ cutSecondsIn p at k was (secondsFrom s 0 m)

@@ -1,12 +1,12 @@
 -- The claims of specs/Claims.antt. Assumes nothing.
-use mathlib.Core.Path.{_≡_, refl, sym, ap, _∙_}
+use mathlib.Core.Path.{_≡_, sym, ap, _∙_}
 use mathlib.Core.Bool.{false}
 use mathlib.Core.List.{List, []}
 use Prim.Native.Nat.{ℕ, zero, suc, _-_}
 use native.Mathlib.Omega.{arith}
-use lib.ListN.{length, take, drop}
+use lib.ListN.{take, drop}
 use Rattle.book.specs.declared.Book.{Book}
-use Rattle.book.specs.State.{fresh, stateOf}
+use Rattle.book.specs.State.{fresh}
 use Rattle.book.proofs.Claims.{fresh-is, none-accepted}
 use Rattle.tally.specs.Tally as tally
 use Rattle.block.specs.Places.{blockSize}
@@ -18,7 +18,8 @@ use Rattle.report.specs.Running.{Kept, keep}
 use Rattle.report.specs.Counts.{keptOf}
 use Rattle.report.proofs.Past.{tally-none}
 use Rattle.check_cut.specs.Cut.{countSize, cutPrintedBy, cutPrinted}
-use Rattle.check_cut.specs.Running.{planOf, blocksTold, lastBy, toldBy, told}
+use Rattle.pieces.specs.Pieces.{lastBy}
+use Rattle.check_cut.specs.Running.{planOf, blocksTold, toldBy, told}
 use Rattle.check_cut.specs.Claims.{Claims}
 use Rattle.check_cut.proofs.Parts.{blocks}
 use Rattle.check_cut.proofs.Told.{last-is, in-first}

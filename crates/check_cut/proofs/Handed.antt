@@ -1,8 +1,8 @@
 -- The handover before a second, and the second after it. Assumes nothing.
 use mathlib.Core.Path.{_≡_, refl, sym, ap, _∙_}
 use mathlib.Core.Bool.{Bool, true, false}
-use mathlib.Core.List.{List, []}
-use Prim.Native.Nat.{ℕ, zero, suc, _+_, _≤_}
+use mathlib.Core.List.{List}
+use Prim.Native.Nat.{ℕ, zero, suc, _≤_}
 use native.Mathlib.Omega.{arith}
 use lib.ListN.{length}
 use borrow.Author.Tests.{eq-eqb, ne-eqb}
@@ -24,7 +24,7 @@ use Rattle.report.specs.Running.{Kept, keep, secondIn, runOf, keptIn, KeptReady
 use Rattle.report.specs.Text.{secondRoom}
 use Rattle.check_cut.specs.declared.seconds.Cut.{Cut}
 use Rattle.book.specs.Cut.{bytesBack}
-use Rattle.check_cut.specs.Running.{CutRan, still, openedBy, handedIn, beforeIn, judgedIn, cutSecondIn, cutRoom, Going, CutAdds}
+use Rattle.check_cut.specs.Running.{still, openedBy, handedIn, beforeIn, judgedIn, cutSecondIn, cutRoom, Going, CutAdds}
 
 -- ---- the handover
 

@@ -1,12 +1,12 @@
 -- Bytes put into a buffer that they fill, and a book second's three parts. Assumes nothing.
-use mathlib.Core.Path.{_≡_, ap, _∙_, sym}
+use mathlib.Core.Path.{_≡_, ap, _∙_}
 use Prim.Native.Nat.{ℕ, _+_}
-use mathlib.Core.List.{List, [], _++_, append-nil}
+use mathlib.Core.List.{List, _++_, append-nil}
 use native.Mathlib.Omega.{arith}
 use lib.ListN.{length, take, drop}
 use lib.Seq.{drop-length}
 use Rattle.codec.specs.Put.{Put}
-use Rattle.codec.proofs.Puts.{both, loosen}
+use Rattle.codec.proofs.Puts.{both}
 use Rattle.record.specs.Record.{size, bookSize, movedBack}
 use Rattle.book.specs.Seconds.{unitBytes, aBytes, bBytes}
 use Rattle.book.specs.Cut.{bytesBack}

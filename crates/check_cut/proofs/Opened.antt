@@ -1,10 +1,9 @@
 -- What the header's reader answered, what follows the last block, and where a block leaves the book. Assumes nothing.
 use mathlib.Core.Path.{_≡_, refl, sym, ap, _∙_}
 use mathlib.Core.List.{List, [], _∷_}
-use Prim.Native.Nat.{ℕ, zero, suc, _≤_}
+use Prim.Native.Nat.{ℕ, zero, suc}
 use native.Mathlib.Omega.{arith}
 use lib.ListN.{length}
-use Rattle.record.specs.Record.{mostSeconds}
 use Rattle.block.specs.declared.Header.{Header}
 use Rattle.block.specs.declared.Header.the-variants as header
 use Rattle.block.specs.Header.{headerNumber, headerOf, headerSays}

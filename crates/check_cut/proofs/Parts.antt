@@ -10,8 +10,9 @@ use Rattle.block.specs.Book.{Held, heldBy, laterBlocks}
 use Rattle.report.specs.declared.run.Plan.{Plan}
 use Rattle.report.specs.declared.run.Verdict.{Verdict}
 use Rattle.report.specs.declared.run.Verdict.the-variants as verdict
-use Rattle.report.specs.Running.{Kept, Ran}
-use Rattle.check_cut.specs.Running.{CutRan, followed, cutSecondIn, cutSecondsIn, blockBy, cutBlockIn, lastBy, verdictOf, goesOn, blocksTold}
+use Rattle.report.specs.Running.{Kept}
+use Rattle.pieces.specs.Pieces.{lastBy}
+use Rattle.check_cut.specs.Running.{CutRan, followed, cutSecondIn, cutSecondsIn, blockBy, cutBlockIn, verdictOf, goesOn, blocksTold}
 
 -- ---- a list in two parts
 

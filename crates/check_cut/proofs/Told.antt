@@ -7,15 +7,13 @@ use native.Mathlib.Omega.{arith}
 use lib.Dec.{eqb}
 use lib.ListN.{length, take, drop}
 use borrow.Author.Tests.{eq-eqb, ne-eqb, eqb-true, eqb-false}
-use Rattle.numbers.specs.Rules.{orElse}
 use Rattle.book.specs.Seconds.{BookSecond, History, Closed}
-use Rattle.book.specs.Refusals.{numberAt, AllClosed, Accepted}
+use Rattle.book.specs.Refusals.{numberAt, Accepted}
 use Rattle.book.specs.Rows.{unitRowAt, aRowAt, bRowAt}
-use Rattle.book.specs.Sums.{sumsOf}
 use Rattle.book.specs.State.{stateOf, secondOf}
-use Rattle.book.specs.HandOver.{handOverNumber, handedOver, closedHanded, pastHanded}
-use Rattle.book.proofs.Claims.{handed, next-accepted}
-use Rattle.tally.specs.Tally as tally
+use Rattle.book.specs.HandOver.{handOverNumber, closedHanded, pastHanded}
+use Rattle.book.proofs.Claims.{next-accepted}
+use Rattle.book.proofs.Handing.{handed}
 use Rattle.line.specs.Line.{sumText}
 use Rattle.report.specs.declared.Form.the-variants.{Figures}
 use Rattle.report.specs.declared.run.Plan.{Plan}
@@ -23,13 +21,14 @@ use Rattle.report.specs.declared.run.Verdict.{Verdict}
 use Rattle.report.specs.declared.run.Verdict.the-variants as verdict
 use Rattle.report.specs.Running.{Kept, keep, Ran, secondIn, refusedAt}
 use Rattle.report.specs.Text.{linesOf}
-use Rattle.report.specs.Counts.{tallyOf, keptOf}
+use Rattle.report.specs.Counts.{keptOf}
 use Rattle.report.proofs.Past.{tally-none}
 use Rattle.report.proofs.Kept.{counted, taken, refused}
 use Rattle.pieces.specs.Printed.{Judged, judgedBy, judged, lastText, bookSeconds}
 use Rattle.book.specs.Cut.{bytesBack}
 use Rattle.check_cut.specs.Cut.{bookText, nextBy, cutBy}
-use Rattle.check_cut.specs.Running.{CutRan, still, followed, openedBy, handedIn, beforeIn, judgedIn, cutSecondIn, cutSecondsIn, lastBy, verdictOf}
+use Rattle.pieces.specs.Pieces.{lastBy}
+use Rattle.check_cut.specs.Running.{CutRan, still, followed, openedBy, handedIn, beforeIn, judgedIn, cutSecondIn, cutSecondsIn, verdictOf}
 use Rattle.check_cut.proofs.Through.{afterText}
 use Rattle.check_cut.proofs.Parts.{ends, ends-after}
 
@@ -180,7 +179,6 @@ module _ (o t at : ℕ) where
   more : (d : ℕ) (h : History) (s : List ℕ) (ss : List (List ℕ)) (m : ℕ) → Accepted [] h → (length h ≡ at → ⊥) → ((numberAt [] h (second s) ≡ 0) → told (keptOf [] (second s ∷ h)) false ss m ≡ cutFrom d (second s ∷ h) ss m) → (n : ℕ) → numberAt [] h (second s) ≡ n → told (keptOf [] h) false (s ∷ ss) m ≡ cutFrom (suc d) h (s ∷ ss) m
   unfolding judged
   more d h s ss m a less others zero e =
-      let x = second s in
       let j = judged Figures [] (second s ∷ h) (bookSeconds o (take d ss)) in
       let lines = linesOf Figures (length h) (unitRowAt [] h (second s)) (aRowAt [] h (second s)) (bRowAt [] h (second s)) in
       one-taken (keptOf [] h) (keptOf [] (second s ∷ h)) false s ss m lines

@@ -10,7 +10,7 @@ use Rattle.book.specs.Cut.{bytesBack}
 use Rattle.book.specs.HandOver.{handOverNumber}
 use Rattle.block.specs.Places.{blockSize}
 use Rattle.block.specs.Header.{headerNumber, ownerOf, secondsOf}
-use Rattle.block.specs.Book.{Held, blocksOf}
+use Rattle.block.specs.Book.{blocksOf}
 use Rattle.report.specs.declared.Form.the-variants.{Figures}
 use Rattle.pieces.specs.Printed.{Judged, judged, lastText, bookSeconds}
 
@@ -39,12 +39,12 @@ cutBy zero o at j (s ∷ ss) m =
     j .text ++ (lastText 0 [] (j .past) ++ nextBy (handOverNumber (length (j .past))) o at (j .past) (s ∷ ss) m)
 cutBy (suc n) o at j ss m = bookText [] j m
 
-abbrev pub judgedFirst : ℕ → ℕ → History → List (List ℕ) → Judged
-judgedFirst o at h ss = judged Figures [] h (bookSeconds o (take at ss))
+abbrev pub judgedFirst : ℕ → ℕ → List (List ℕ) → Judged
+judgedFirst o at ss = judged Figures [] [] (bookSeconds o (take at ss))
 
 -- the seconds ss of a book, cut after `at` of them
 abbrev pub cutText : ℕ → ℕ → List (List ℕ) → ℕ → List ℕ
-cutText o at ss m = cutBy (judgedFirst o at [] ss .number) o at (judgedFirst o at [] ss) (drop at ss) m
+cutText o at ss m = cutBy (judgedFirst o at ss .number) o at (judgedFirst o at ss) (drop at ss) m
 
 -- ---- the whole
 

@@ -8,7 +8,7 @@ use lib.Dec.{eqb}
 use lib.ListN.{take, drop}
 use Rattle.codec.specs.Little.{u32At}
 use Rattle.record.specs.Record.{mostSeconds}
-use Rattle.book.specs.declared.Book.{Book}
+use Rattle.book.specs.Cut.{bytesBack}
 use Rattle.book.specs.HandOver.{handOverNumber, handedOver}
 use Rattle.book.specs.State.{fresh}
 use Rattle.tally.specs.Tally as tally
@@ -16,7 +16,7 @@ use Rattle.block.specs.Places.{blockSize, perBlock}
 use Rattle.block.specs.Header.{headerNumber, ownerOf, secondsOf}
 use Rattle.block.specs.Block.{blockNumber, countOf, secondsFrom}
 use Rattle.block.specs.Book.{lastBlock, pastLast}
-use Rattle.line.specs.Line.{sumText, refusalText}
+use Rattle.line.specs.Line.{sumText}
 use Rattle.line.specs.Widths.{rowRoom}
 use Rattle.report.specs.declared.Form.the-variants.{Figures}
 use Rattle.report.specs.declared.run.Plan.{Plan}
@@ -24,9 +24,9 @@ use Rattle.report.specs.declared.run.Verdict.{Verdict}
 use Rattle.report.specs.declared.run.Verdict.the-variants.{Accepted, Refused}
 use Rattle.report.specs.Running.{Kept, keep, Ran, refusedAt, secondIn, after, keptIn, KeptReady, Adds}
 use Rattle.report.specs.Text.{secondRoom}
+use Rattle.pieces.specs.Pieces.{lastBy}
 use Rattle.check_cut.specs.declared.seconds.Cut.{Cut}
 use Rattle.check_cut.specs.declared.Opening.{Opening}
-use Rattle.book.specs.Cut.{bytesBack}
 use Rattle.check_cut.specs.Cut.{countSize}
 
 -- ---- one second
@@ -88,10 +88,7 @@ cutBlockIn p at n k b s = blockBy (blockNumber s (p .seconds) n) p at k b s
 
 -- ---- the whole
 
-abbrev pub lastBy : Verdict → Book → List ℕ
-lastBy Accepted k = sumText (k .sums)
-lastBy (Refused n) k = refusalText n (k .unit .seconds)
-
+-- 0 is no refusal
 abbrev pub verdictOf : ℕ → Verdict
 verdictOf zero = Accepted
 verdictOf (suc n) = Refused (suc n)

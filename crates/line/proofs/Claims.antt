@@ -9,19 +9,21 @@ use lib.Dec.{lit<}
 use lib.IntN.{ℤ}
 use mir.Syntax.{w64}
 use mir.Val.{SFits}
+use Rattle.row.specs.declared.Rounding.{Rounding}
 use Rattle.row.specs.declared.KindRow.{KindRow}
 use Rattle.row.specs.declared.Row.{Row}
 use Rattle.row.specs.declared.sums.Sums.{Sums}
-use Rattle.line.specs.Text.{ascii, digits, digitsIn, decimal, field, named}
-use Rattle.line.specs.Widths.{lineRoom, rowRoom, plantWidth, kindWidth, sumWidth}
+use Rattle.line.specs.Text.{ascii, digits, digitsIn, decimal, field, unsigned, named}
+use Rattle.line.specs.Widths.{lineRoom, rowRoom, plantWidth, kindWidth, roundingWidth, sumWidth}
 use Rattle.line.specs.Line.{plantText, secondText, sumText, refusalText, kindText, rowText}
-use Rattle.row.specs.Fits.{Kind32, Row32, Sums64}
+use Rattle.row.specs.Fits.{Rounding32, Kind32, Row32, Sums64}
 use Rattle.line.specs.Claims.{Lengths, Examples}
 use Rattle.line.proofs.Digits.{digits-by}
 use Rattle.row.specs.Side.{sideOf}
 use Rattle.line.specs.Short.{outsideText, shortText, sideCountText, kindCountsText, countsText}
+use Rattle.line.specs.Shares.{roundingText, roundingsText, sharesText}
 use Rattle.line.proofs.Short.{short-most, counts-most}
-use Rattle.line.proofs.Lengths.{count-most, decimal-64, field-most}
+use Rattle.line.proofs.Lengths.{count-most, decimal-64, field-most, unsigned-most}
 
 plant-most : (l : ℕ) (x : Row) → Row32 x → length (plantText l x) ≤ plantWidth
 unfolding plantText
@@ -81,17 +83,39 @@ row-most t letter x h f =
     let rest = field-most (x .«open» .0) (f .«open») in
     simp length-append (omega arith)
 
+rounding-most : (r : Rounding) → Rounding32 r → length (roundingText r) ≤ roundingWidth
+unfolding roundingText
+rounding-most r f =
+    let tolerance = unsigned-most (r .tolerance) (f .tolerance .fits) in
+    let floor = unsigned-most (r .floor) (f .floor .fits) in
+    let remainder = unsigned-most (r .remainder) (f .remainder .fits) in
+    let extra = unsigned-most (r .extra) (f .extra .fits) in
+    simp length-append (omega arith)
+
+shares-most : (t letter : ℕ) (x : Row) → t < 2 ^ 32 → Row32 x → length (sharesText t letter x) ≤ rowRoom
+unfolding sharesText roundingsText
+shares-most t letter x h f =
+    let count = count-most t h in
+    let error = field-most (x .error .0) (f .error) in
+    let total = unsigned-most (x .total) (f .total .fits) in
+    let fcr = rounding-most (x .fcr .rounding) (f .fcr .rounding) in
+    let afrr = rounding-most (x .afrr .rounding) (f .afrr .rounding) in
+    let mfrr = rounding-most (x .mfrr .rounding) (f .mfrr .rounding) in
+    simp length-append (omega arith)
+
 pub lengths : Lengths
-lengths = record { second = second-most; sums = sum-most; refusal = refusal-most; row = row-most; short = short-most; counts = counts-most }
+lengths = record { second = second-most; sums = sum-most; refusal = refusal-most; row = row-most; shares = shares-most; short = short-most; counts = counts-most }
 
 pub examples : Examples
-unfolding secondText plantText sumText named refusalText rowText kindText shortText outsideText sideOf countsText kindCountsText sideCountText field decimal digits digitsIn
+unfolding secondText plantText sumText named refusalText rowText kindText sharesText roundingsText roundingText unsigned shortText outsideText sideOf countsText kindCountsText sideCountText field decimal digits digitsIn
 examples =
     record {
       full-second = refl;
       full-sum = refl;
       refused = refl;
       every-figure = refl;
+      full-shares = refl;
+      every-part = refl;
       short = refl;
       counts = refl;
       least-32 = ap (λ (l : List ℕ). ascii "-" ++ l) (digits-by 9 2147483648 (lit< tt));

@@ -6,8 +6,8 @@ use lib.IntN.{ℤ, pos, negsuc, natAbs}
 use lib.Signed.{natAbs-le}
 use mir.Syntax.{w32, w64}
 use mir.Val.{SFits}
-use Rattle.line.specs.Widths.{countWidth, fieldWidth, sumWidth}
-use Rattle.line.specs.Text.{digits, decimal, field}
+use Rattle.line.specs.Widths.{countWidth, fieldWidth, unsignedWidth, sumWidth}
+use Rattle.line.specs.Text.{digits, decimal, field, unsigned}
 use Rattle.line.proofs.Digits.{digits-most}
 
 pub count-most : (n : ℕ) → n < 2 ^ 32 → length (digits n) ≤ countWidth
@@ -31,3 +31,7 @@ decimal-64 z f = let h = natAbs-le z (f .sfits) in decimal-most 18 z (omega arit
 pub field-most : (z : ℤ) → SFits w32 z → length (field z) ≤ fieldWidth
 unfolding field
 field-most z f = let d = decimal-32 z f in omega arith
+
+pub unsigned-most : (n : ℕ) → n < 2 ^ 32 → length (unsigned n) ≤ unsignedWidth
+unfolding unsigned
+unsigned-most n h = let d = count-most n h in omega arith

@@ -36,6 +36,10 @@ decimal z = sign z ++ digits (natAbs z)
 unfoldable pub field : ℤ → List ℕ
 field z = ascii " " ++ decimal z
 
+-- a number that has no sign, with the space that stands before it
+unfoldable pub unsigned : ℕ → List ℕ
+unsigned n = ascii " " ++ digits n
+
 -- a name, which ends in a space, and a number
 unfoldable pub named : List ℕ → ℤ → List ℕ
 named name z = name ++ decimal z

@@ -5,7 +5,7 @@ use Prim.Native.Nat.{ℕ, _+_, _*_}
 abbrev pub lineRoom : ℕ
 lineRoom = 200
 
--- for the line with every figure of a row
+-- for the line with every figure of a row, and for the one of its shares
 abbrev pub rowRoom : ℕ
 rowRoom = 256
 
@@ -16,6 +16,10 @@ countWidth = 10
 -- a space, and a signed 32-bit number
 abbrev pub fieldWidth : ℕ
 fieldWidth = 12
+
+-- a space, and an unsigned 32-bit number
+abbrev pub unsignedWidth : ℕ
+unsignedWidth = 1 + countWidth
 
 -- a 64-bit number, signed or not
 abbrev pub sumWidth : ℕ
@@ -28,6 +32,10 @@ plantWidth = 2 + 4 * fieldWidth
 -- the five figures of a kind
 abbrev pub kindWidth : ℕ
 kindWidth = 5 * fieldWidth
+
+-- the four figures of a kind's rounding
+abbrev pub roundingWidth : ℕ
+roundingWidth = 4 * unsignedWidth
 
 -- a kind's name and a side's, with their spaces
 abbrev pub nameWidth : ℕ

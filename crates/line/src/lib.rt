@@ -4,6 +4,7 @@
 mod book_lines;
 mod number;
 mod row_lines;
+mod share_lines;
 mod short_lines;
 
 ghost use mathlib.Core.Path.{_≡_};
@@ -15,6 +16,7 @@ pub use number::put_count;
 pub use number::put_millihertz;
 pub use row_lines::ROW_ROOM;
 pub use row_lines::plant_line;
+pub use share_lines::plant_shares;
 pub use short_lines::plant_counts;
 pub use short_lines::plant_short;
 

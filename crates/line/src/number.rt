@@ -9,8 +9,8 @@ ghost use lib.IntN.{natAbs, pos};
 ghost use lib.Signed.{ltZ};
 ghost use lib.ListN.{length};
 ghost use Rattle.codec.specs.Put.{Put};
-ghost use Rattle.line.specs.Text.{digit, digits, decimal, field};
-ghost use Rattle.line.specs.Widths.{countWidth, fieldWidth, sumWidth};
+ghost use Rattle.line.specs.Text.{digit, digits, decimal, field, unsigned};
+ghost use Rattle.line.specs.Widths.{countWidth, fieldWidth, unsignedWidth, sumWidth};
 
 // A signed number of either width, to be printed.
 struct Number(i64);
@@ -52,6 +52,15 @@ pub fn put_count(buf: &mut [u8], at: usize, n: u32) -> usize
     ensures { λ r. ⌜ Put countWidth (now (buf .entry)) (now (buf .exit)) at r (digits n) ⌝ }
 {
     put_digits(buf, at, n as u64)
+}
+
+// A space and a number that has no sign.
+pub(crate) fn put_unsigned(buf: &mut [u8], at: usize, n: u32) -> usize
+    requires { ⌜ at + unsignedWidth ≤ length (now buf) ⌝ }
+    ensures { λ r. ⌜ Put unsignedWidth (now (buf .entry)) (now (buf .exit)) at r (unsigned n) ⌝ }
+{
+    let to = codec::put_byte(buf, at, b' ');
+    put_count(buf, to, n)
 }
 
 // A number of kW-seconds that has no sign.

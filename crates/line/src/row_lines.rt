@@ -12,7 +12,7 @@ ghost use Rattle.line.specs.Widths.{rowRoom, kindWidth};
 ghost use Rattle.line.specs.Line.{kindText, rowText};
 ghost use Rattle.line.specs.Lined.{Lined};
 
-// The least buffer that this line writer takes, and those of the short lines; no line needs more.
+// The least buffer that this line writer takes, and those of the shares and the short lines; no line needs more.
 pub const ROW_ROOM: usize = 256;
 
 // One kind's setpoint, band, share and actual value, each after a space.

@@ -25,7 +25,7 @@ pub record Judged : Type 0 where
   pub past : History
   pub number : ℕ
 
--- second s after the past h and the closed books c, where its number is n and `rest` is what the seconds after it give
+-- second s after the closed books c and the seconds h, where its number is n and `rest` is what the seconds after it give
 abbrev pub judgedBy : ℕ → Form → Closed → History → BookSecond → Judged → Judged
 judgedBy zero f c h s rest =
     record {
@@ -52,10 +52,11 @@ endText f n c h = countsOf f (tallyOf c h) ++ lastText n c h
 
 -- ---- the whole
 
--- the seconds of the blocks s of a book of owner o and t seconds, judged from a fresh book
+-- the seconds of a book of owner o
 abbrev pub bookSeconds : ℕ → List (List ℕ) → List BookSecond
 bookSeconds o ss = map (secondOf o) ss
 
+-- those of its blocks s, where it has t seconds, judged from a fresh book
 abbrev pub judgedIn : Form → ℕ → ℕ → List ℕ → Judged
 judgedIn f o t s = judged f [] [] (bookSeconds o (blocksOf t s .seconds))
 

@@ -2,7 +2,7 @@
 use mathlib.Core.Path.{_≡_, refl, sym, ap, _∙_, subst}
 use mathlib.Core.Bool.{Bool, true, false, not, cond}
 use mathlib.Core.List.{List, [], _∷_}
-use Prim.Native.Nat.{ℕ, zero, suc, _*_, _-_, _%_, _^_}
+use Prim.Native.Nat.{ℕ, zero, suc, _+_, _*_, _-_, _%_, _^_, _≤_}
 use native.Mathlib.Omega.{arith}
 use lib.Dec.{T, leb, eqb}
 use lib.IntN.{ℤ, pos}
@@ -10,16 +10,18 @@ use lib.ListN.{length}
 use Rattle.numbers.specs.Bounds.{Within}
 use mir.Syntax.{w32}
 use mir.Val.{SFits, hbits}
+use mir.Facts.{fits-le, fits-lit}
 use Rattle.numbers.proofs.Fit.{within-le, within-lit, fits-by}
 use Rattle.power.specs.declared.limits.Limits.{Limits}
-use Rattle.power.specs.Units.{perKw}
+use Rattle.power.specs.Units.{perKw, mostReserve}
 use Rattle.power.specs.Inward.{publishedOf}
 use Rattle.power.proofs.Inside.{upper-within, lower-within}
 use Rattle.record.specs.declared.Record.{Record}
 use Rattle.record.specs.Record.{size, recordOf}
+use Rattle.row.specs.declared.Rounding.{Rounding}
 use Rattle.row.specs.declared.KindRow.{KindRow}
 use Rattle.row.specs.declared.Row.{Row}
-use Rattle.row.specs.Fits.{Kind32, Row32}
+use Rattle.row.specs.Fits.{Rounding32, Kind32, Row32}
 use Rattle.sharing.specs.Claims.{AllPublished}
 use Rattle.sharing.specs.Sizes as sharing
 use Rattle.sharing.proofs.Rows.{row-shared}
@@ -144,10 +146,29 @@ mostDifference = 2 * sharing.mostShared
 -- a row that is small enough fits
 small-fits : (r : Row) → sharing.SizedRow mostDifference r → Row32 r
 small-fits r h =
-    record { fcr = kind (r .fcr) (h .fcr); afrr = kind (r .afrr) (h .afrr); mfrr = kind (r .mfrr) (h .mfrr); «open» = small _ _ (h .open-within) tt }
+    record {
+      fcr = kind (r .fcr) (h .fcr);
+      afrr = kind (r .afrr) (h .afrr);
+      mfrr = kind (r .mfrr) (h .mfrr);
+      «open» = small _ _ (h .open-within) tt;
+      error = small _ _ (h .error-within) tt;
+      total = fits-le (h .total-most) (fits-lit tt);
+    }
   where
     small : (B : ℕ) (z : ℤ) → Within B z → T (leb B (2 ^ hbits w32 - 1)) → SFits w32 z
     small B z h t = fits-by w32 z (within-le B (2 ^ hbits w32 - 1) z h t)
+
+    rounded : (x : Rounding) → sharing.SizedRounding mostDifference x → Rounding32 x
+    rounded x h =
+        let most = mostDifference + 3 * mostReserve in
+        let f : x .floor ≤ most = omega (arith, h .whole) in
+        let e : x .extra ≤ most = omega (arith, h .whole) in
+        record {
+          tolerance = fits-le (h .tolerance) (fits-lit tt);
+          floor = fits-le f (fits-lit tt);
+          remainder = fits-le (h .remainder) (fits-lit tt);
+          extra = fits-le e (fits-lit tt);
+        }
 
     kind : (k : KindRow) → sharing.SizedKindRow mostDifference k → Kind32 k
     kind k h =
@@ -157,6 +178,7 @@ small-fits r h =
           high = small _ _ (h .high) tt;
           share = small _ _ (h .share) tt;
           actual = small _ _ (h .actual) tt;
+          rounding = rounded (k .rounding) (h .rounding);
         }
 
 module _ (c : Closed) (h : History) (a : Accepted c h) (x : Record) (accepted-x : recordNumberAt c h x ≡ 0) where

@@ -27,7 +27,7 @@ use Rattle.plant.specs.Fresh.{FreshBook}
 use Rattle.plant.specs.Cut.{Cut}
 use Rattle.plant.specs.Run.{PlantSecond, stateAfter, answers, accepted, answersOver}
 
--- the past that the definitions see is exactly the accepted seconds: of a list that comes after the past h and the closed books c
+-- the past that the definitions see is exactly the accepted seconds: of a list that comes after the closed books c and the seconds h
 pub record EveryList (c : Closed) (h : History) (ss : List PlantSecond) : Type 0 where
   pub last : stateAfter (stateOf c h) ss ≡ stateOf c (accepted c h ss)
   pub each : answers (stateOf c h) ss ≡ answersOver c h ss
@@ -62,7 +62,7 @@ pub record SameTurnedDown (n base : ℕ) : Type 0 where
   pub other-numbers : (base ≡ 11 → ⊥) → n ≡ base
   pub which-kind : base ≡ 11 → (n ≡ 11) ⊎ ((n ≡ 24) ⊎ (n ≡ 25))
 
--- 02, W3, of the second of bytes s after the past h
+-- 02, W3, of the second of bytes s after the closed books c and the seconds h
 pub record QuarterHour (c : Closed) (h : History) (s : List ℕ) : Type 0 where
   -- a second that 26 doesn't stop gets the number and the row that the other rules give
   pub other-numbers : (numberAt c h s ≡ 26 → ⊥) → numberAt c h s ≡ freeNumberAt c h s

@@ -39,7 +39,7 @@ use Rattle.plant.specs.Rows.{kindsWith, sharedDifference, rowBy, saidAt,
 
 -- ---- after a past
 
--- what the state holds after the past h and the closed books c
+-- what the state holds after the closed books c and the seconds h
 unfoldable pub stateOf : Closed → History → PlantState
 stateOf c h =
     record {

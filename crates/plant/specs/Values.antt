@@ -11,6 +11,7 @@ use Rattle.power.specs.declared.limits.Band.{Band}
 use Rattle.power.specs.Units.{kw}
 use Rattle.record.specs.declared.KindBits.{KindBits}
 use Rattle.record.specs.declared.Record.{Record}
+use Rattle.row.specs.declared.Rounding.{Rounding}
 use Rattle.row.specs.declared.KindRow.{KindRow}
 use Rattle.plant.specs.declared.Kinds.{Kinds}
 use Rattle.plant.specs.declared.Setpoints.{Setpoints}
@@ -82,8 +83,11 @@ setpoints f a m = record { fcr = kw f; afrr = kw a; mfrr = kw m }
 abbrev band : ℤ → ℤ → Band
 band low high = record { low = kw low; high = kw high }
 
-abbrev kindRow : ℤ → ℤ → ℤ → ℤ → ℤ → KindRow
-kindRow s low high share actual = record { setpoint = kw s; band = band low high; share = kw share; actual = kw actual }
+abbrev kindRow : ℤ → ℤ → ℤ → ℤ → ℤ → Rounding → KindRow
+kindRow s low high share actual r = record { setpoint = kw s; band = band low high; share = kw share; actual = kw actual; rounding = r }
+
+abbrev rounding : ℕ → ℕ → ℕ → ℕ → Rounding
+rounding t f r x = record { tolerance = t; floor = f; remainder = r; extra = x }
 
 -- the kinds of a second of status n: setpoints 1, 2 and 3, bands 4 to 5, 6 to 7 and 8 to 9
 abbrev pub kindsIn : ℕ → Kinds
@@ -156,9 +160,10 @@ pub record Values : Type 0 where
   -- mFRR off: its setpoint is 0 in the second of a first call, and not in the next one, with a call or without
   pub off-at-a-call : recordNumberAt [] [] (calling 1 (pos 900) 1800) ≡ 0
   pub off-in-a-call : map (recordNumberAt [] (calling 1 (pos 900) 1800 ∷ [])) (inStatus 0 ∷ calling 1 (pos 0) 1800 ∷ []) ≡ 25 ∷ 25 ∷ []
-  -- after closed books of 900 seconds 1 and 9 look at the book's own count and end, 26 at no second 0; and a call of the closing book goes on
+  -- after a closed book of 900 seconds: at the next one's second 0 every status is free, and an end is a multiple of 900 up to 3,600 of its own seconds; a
+  -- call of the closed book goes on
   pub own-count : map (recordNumberAt (quarter ∷ []) []) (inStatus 7 ∷ calling 1 (pos 1) 900 ∷ calling 1 (pos 1) 3600 ∷ calling 1 (pos 1) 4500 ∷ []) ≡ 0 ∷ 0 ∷ 0 ∷ 9 ∷ []
-  pub goes-on : setpointsAt ((calling 1 (pos 900) 1800 ∷ []) ∷ []) [] (inStatus 4) ≡ setpoints (pos 0) (pos 0) (pos 1)
+  pub goes-on : setpointsAt ((calling 1 (pos 900) 1800 ∷ replicate 899 (inStatus 0)) ∷ []) [] (inStatus 4) ≡ setpoints (pos 0) (pos 0) (pos 1)
   pub end-of-two-books : movedOn 900 (calling 1 (pos 1) 1800) ≡ calling 1 (pos 1) 2700
   pub quiet-stays : movedOn 900 (inStatus 4) ≡ inStatus 4
   pub twelve : map (λ (n : ℕ). lengthRule (replicate n 0) .applies) (35 ∷ 36 ∷ 37 ∷ []) ≡ true ∷ false ∷ true ∷ []
@@ -191,9 +196,12 @@ pub record Values : Type 0 where
   pub figures :
       figuresOf
       (record {
-        fcr = kindRow (pos 1) (pos 2) (pos 3) (pos 4) (pos 5);
-        afrr = kindRow (pos 6) (pos 7) (pos 8) (pos 9) (pos 10);
-        mfrr = kindRow (pos 11) (pos 12) (pos 13) (pos 14) (pos 15);
+        fcr = kindRow (pos 1) (pos 2) (pos 3) (pos 4) (pos 5) (rounding 19 20 21 22);
+        afrr = kindRow (pos 6) (pos 7) (pos 8) (pos 9) (pos 10) (rounding 23 24 25 26);
+        mfrr = kindRow (pos 11) (pos 12) (pos 13) (pos 14) (pos 15) (rounding 27 28 29 30);
         «open» = kw (pos 16);
+        error = kw (pos 17);
+        total = 18;
       })
-      ≡ map (λ (n : ℕ). pos n) (1 ∷ 2 ∷ 3 ∷ 4 ∷ 5 ∷ 6 ∷ 7 ∷ 8 ∷ 9 ∷ 10 ∷ 11 ∷ 12 ∷ 13 ∷ 14 ∷ 15 ∷ 16 ∷ [])
+      ≡ map (λ (n : ℕ). pos n)
+      (1 ∷ 2 ∷ 3 ∷ 4 ∷ 5 ∷ 6 ∷ 7 ∷ 8 ∷ 9 ∷ 10 ∷ 11 ∷ 12 ∷ 13 ∷ 14 ∷ 15 ∷ 16 ∷ 17 ∷ 18 ∷ 19 ∷ 20 ∷ 21 ∷ 22 ∷ 23 ∷ 24 ∷ 25 ∷ 26 ∷ 27 ∷ 28 ∷ 29 ∷ 30 ∷ [])

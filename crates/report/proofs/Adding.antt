@@ -23,6 +23,7 @@ room-most (text.Sums s) = omega arith
 room-most (text.Refusal n t) = omega arith
 room-most (text.Short t letter x) = omega arith
 room-most (text.Counts letter c) = omega arith
+room-most (text.Shares t letter x) = omega arith
 
 pub put-in-rest : {least m at n : ℕ} {b e text : List ℕ} {r : Answer} → at + m ≤ length b → least ≤ m → n ≡ lengthIn r → Lined least (midOf at (length b - at) b) e r text → Put m b (putMid at (length b - at) b e) at (at + n) text
 put-in-rest {least} {m} {at} {n} {b} {e} {text} {r} fits small is f =

@@ -44,4 +44,4 @@ every-list : (f : Form) (ss : List BookSecond) → keptAfter f (keep fresh zero)
 every-list f ss = ap (λ (k : Kept). keptAfter f k ss) begins ∙ kept-list f ss [] [] none-accepted
 
 pub claims : Claims
-claims = record { no-line = no-line; every-list = every-list }
+claims = record { no-line = no-line; every-list = every-list; lists-after = λ f c h a ss. kept-list f ss c h a }

@@ -43,3 +43,5 @@ pub record Claims : Type 0 where
   pub no-line : (c : Closed) (h : History) → Accepted c h → (s : BookSecond) → numberAt c h s ≡ 0 → NoLines c h s
   -- for every list of book seconds from a fresh book, refused ones included: the counts are the sums over the accepted ones (`tallyOf`), beside the book
   pub every-list : (f : Form) (ss : List BookSecond) → keptAfter f (keep fresh zero) ss ≡ keptOf [] (accepted [] [] ss)
+  -- and from what accepted seconds leave, in this book and in closed ones
+  pub lists-after : (f : Form) (c : Closed) (h : History) → Accepted c h → (ss : List BookSecond) → keptAfter f (keptOf c h) ss ≡ keptOf c (accepted c h ss)

@@ -32,7 +32,7 @@ plantCounts r h = record { fcr = kindCounts (λ p s. r p s .fcr) h; afrr = kindC
 unfoldable pub tallyOf : Closed → History → Tally
 tallyOf c h = record { unit = plantCounts (unitRowAt c) h; a = plantCounts (aRowAt c) h; b = plantCounts (bRowAt c) h }
 
--- what is kept after the past h
+-- what is kept after the closed books c and the seconds h
 abbrev pub keptOf : Closed → History → Kept
 keptOf c h = keep (stateOf c h) (tallyOf c h)
 

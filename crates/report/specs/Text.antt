@@ -6,10 +6,11 @@ use Rattle.row.specs.declared.Row.{Row}
 use Rattle.block.specs.Places.{perBlock}
 use Rattle.line.specs.Line.{secondText, rowText, sumText, refusalText}
 use Rattle.line.specs.Short.{shortText, countsText}
+use Rattle.line.specs.Shares.{sharesText}
 use Rattle.line.specs.Widths.{lineRoom, rowRoom}
 use Rattle.tally.specs.declared.Tally.{Tally}
 use Rattle.report.specs.declared.Form.{Form}
-use Rattle.report.specs.declared.Form.the-variants.{Line, Figures, Short}
+use Rattle.report.specs.declared.Form.the-variants.{Line, Figures, Short, Shares}
 use Rattle.report.specs.declared.lines.TextLine.{TextLine}
 use Rattle.report.specs.declared.lines.TextLine.the-variants as text
 
@@ -21,6 +22,7 @@ textOf (text.Sums s) = sumText s
 textOf (text.Refusal n t) = refusalText n t
 textOf (text.Short t letter x) = shortText t letter x
 textOf (text.Counts letter c) = countsText letter c
+textOf (text.Shares t letter x) = sharesText t letter x
 
 abbrev pub roomOf : TextLine → ℕ
 roomOf (text.Second t u a b) = lineRoom
@@ -29,12 +31,15 @@ roomOf (text.Sums s) = lineRoom
 roomOf (text.Refusal n t) = lineRoom
 roomOf (text.Short t letter x) = rowRoom
 roomOf (text.Counts letter c) = rowRoom
+roomOf (text.Shares t letter x) = rowRoom
 
--- the accepted second t: its line, or a line with every figure for U, A and B each, or a line for each kind outside its band
+-- the accepted second t: its line, or a line with every figure for U, A and B each, or a line for each kind outside its band, or a line with what
+-- was shared for U, A and B each
 abbrev pub linesOf : Form → ℕ → Row → Row → Row → List ℕ
 linesOf Line t u a b = secondText t u a b
 linesOf Figures t u a b = rowText t (code "U") u ++ (rowText t (code "A") a ++ rowText t (code "B") b)
 linesOf Short t u a b = shortText t (code "U") u ++ (shortText t (code "A") a ++ shortText t (code "B") b)
+linesOf Shares t u a b = sharesText t (code "U") u ++ (sharesText t (code "A") a ++ sharesText t (code "B") b)
 
 -- nine lines of counts, those of U, A and B in turn
 abbrev pub tallyText : Tally → List ℕ
@@ -45,6 +50,7 @@ abbrev pub countsOf : Form → Tally → List ℕ
 countsOf Line q = []
 countsOf Figures q = []
 countsOf Short q = tallyText q
+countsOf Shares q = []
 
 -- the bytes that the lines of a second take at most, and those of a block
 abbrev pub secondRoom : ℕ

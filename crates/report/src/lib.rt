@@ -12,10 +12,11 @@ pub use run::Verdict;
 pub use run::run_block;
 pub use run::run_second;
 
-// What a second is printed as: one line with the actual values; a line a plant with every figure of its row; or a line for each kind outside its
-// band, and at the end how often each was.
+// What a second is printed as: one line with the actual values; a line a plant with every figure of its row; a line for each kind outside its
+// band, and at the end how often each was; or a line a plant with what was shared and how each share was rounded.
 pub enum Form {
     Line,
     Figures,
     Short,
+    Shares,
 }

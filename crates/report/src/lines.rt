@@ -40,6 +40,11 @@ pub enum TextLine {
         letter: u8,
         counts: PlantCounts,
     },
+    Shares {
+        second: u32,
+        letter: u8,
+        row: Row,
+    },
 }
 
 fn write(buf: &mut [u8], text: TextLine) -> Answer
@@ -60,6 +65,11 @@ fn write(buf: &mut [u8], text: TextLine) -> Answer
             row,
         } => line::plant_short(buf, second, letter, row),
         TextLine::Counts { letter, counts } => line::plant_counts(buf, letter, counts),
+        TextLine::Shares {
+            second,
+            letter,
+            row,
+        } => line::plant_shares(buf, second, letter, row),
     }
 }
 
@@ -119,6 +129,30 @@ fn add_short(out: &mut [u8], at: usize, second: u32, unit: Row, a: Row, b: Row) 
     add_plant_short(out, at, second, b'B', b)
 }
 
+fn add_plant_shares(out: &mut [u8], at: usize, second: u32, letter: u8, row: Row) -> usize
+    requires { ⌜ at + rowRoom ≤ length (now out) ⌝ }
+    ensures { λ r. ⌜ Put rowRoom (now (out .entry)) (now (out .exit)) at r (textOf (TextLine.Shares second letter row)) ⌝ }
+{
+    add(
+        out,
+        at,
+        TextLine::Shares {
+            second,
+            letter,
+            row,
+        },
+    )
+}
+
+fn add_shares(out: &mut [u8], at: usize, second: u32, unit: Row, a: Row, b: Row) -> usize
+    requires { ⌜ at + secondRoom ≤ length (now out) ⌝ }
+    ensures { λ r. ⌜ Put secondRoom (now (out .entry)) (now (out .exit)) at r (linesOf Form.Shares second unit a b) ⌝ }
+{
+    let at = add_plant_shares(out, at, second, b'U', unit);
+    let at = add_plant_shares(out, at, second, b'A', a);
+    add_plant_shares(out, at, second, b'B', b)
+}
+
 fn add_plant_counts(out: &mut [u8], at: usize, letter: u8, counts: PlantCounts) -> usize
     requires { ⌜ at + rowRoom ≤ length (now out) ⌝ }
     ensures { λ r. ⌜ Put rowRoom (now (out .entry)) (now (out .exit)) at r (textOf (TextLine.Counts letter counts)) ⌝ }
@@ -144,6 +178,7 @@ pub fn add_counts(out: &mut [u8], at: usize, form: Form, tally: Tally) -> usize
         Form::Line => at,
         Form::Figures => at,
         Form::Short => add_tally(out, at, tally),
+        Form::Shares => at,
     }
 }
 
@@ -164,5 +199,6 @@ pub(crate) fn add_second(
         Form::Line => add(out, at, TextLine::Second { second, unit, a, b }),
         Form::Figures => add_figures(out, at, second, unit, a, b),
         Form::Short => add_short(out, at, second, unit, a, b),
+        Form::Shares => add_shares(out, at, second, unit, a, b),
     }
 }

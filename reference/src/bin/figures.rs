@@ -74,6 +74,7 @@ fn printed_kinds(program: &str, kind: usize, records: &[Record]) -> Vec<Kind> {
                 },
                 share: figure(3),
                 actual: figure(4),
+                ..Kind::default()
             }
         })
         .collect();

@@ -17,6 +17,9 @@ enum-told-3 c = search needs
 add-tally-requires : tie.Need-add-tally-requires
 add-tally-requires c κs = search needs
 
+enum-told-4 : tie.Need-enum-told-4
+enum-told-4 c = search needs
+
 returns : tie.Need-returns
 returns c = rw (c .enum-told .given .1) (loosen (omega arith) (none _ _ (omega (arith, c .before .before .before .pre))))
 
@@ -29,6 +32,9 @@ same-length c = search needs
 returns-3 : tie.Need-returns-3
 returns-3 c = rw (c .before .before .before .before .enum-told3 .given .1) (c .before .before .add-tally .ensures)
 
+returns-4 : tie.Need-returns-4
+returns-4 c = rw (c .enum-told4 .given .1) (loosen (omega arith) (none _ _ (omega (arith, c .before .before .before .pre))))
+
 pub add-counts-spec : {M : Type 1} → statement M
 add-counts-spec =
     tie.close
@@ -37,7 +43,9 @@ add-counts-spec =
     enum-told-2
     enum-told-3
     add-tally-requires
+    enum-told-4
     returns
     returns-2
     same-length
-    returns-3)
+    returns-3
+    returns-4)

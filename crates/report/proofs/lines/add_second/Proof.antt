@@ -23,6 +23,12 @@ enum-told-3 c = search needs
 add-short-requires : tie.Need-add-short-requires
 add-short-requires c κs = search needs
 
+enum-told-4 : tie.Need-enum-told-4
+enum-told-4 c = search needs
+
+add-shares-requires : tie.Need-add-shares-requires
+add-shares-requires c κs = search needs
+
 same-length : tie.Need-same-length
 same-length c = search needs
 
@@ -41,6 +47,12 @@ same-length-3 c = search needs
 returns-3 : tie.Need-returns-3
 returns-3 c = rw (c .before .before .before .before .enum-told3 .given .1) (c .before .before .add-short .ensures)
 
+same-length-4 : tie.Need-same-length-4
+same-length-4 c = search needs
+
+returns-4 : tie.Need-returns-4
+returns-4 c = rw (c .before .before .before .before .enum-told4 .given .1) (c .before .before .add-shares .ensures)
+
 pub add-second-spec : {M : Type 1} → statement M
 add-second-spec =
     tie.close
@@ -51,9 +63,13 @@ add-second-spec =
     add-figures-requires
     enum-told-3
     add-short-requires
+    enum-told-4
+    add-shares-requires
     same-length
     returns
     same-length-2
     returns-2
     same-length-3
-    returns-3)
+    returns-3
+    same-length-4
+    returns-4)

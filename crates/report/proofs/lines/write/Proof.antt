@@ -39,6 +39,12 @@ enum-known-text-6 c = search needs
 plant-counts-requires : tie.Need-plant-counts-requires
 plant-counts-requires c κs = search needs
 
+enum-known-text-7 : tie.Need-enum-known-text-7
+enum-known-text-7 c = search needs
+
+plant-shares-requires : tie.Need-plant-shares-requires
+plant-shares-requires c κs = search needs
+
 same-length : tie.Need-same-length
 same-length c = search needs
 
@@ -75,6 +81,12 @@ same-length-6 c = search needs
 returns-6 : tie.Need-returns-6
 returns-6 c = rw (c .before .before .before .before .before .text6 .given .1) (c .before .before .plant-counts .ensures)
 
+same-length-7 : tie.Need-same-length-7
+same-length-7 c = search needs
+
+returns-7 : tie.Need-returns-7
+returns-7 c = rw (c .before .before .before .before .before .text7 .given .1) (c .before .before .plant-shares .ensures)
+
 pub write-spec : {M : Type 1} → statement M
 write-spec =
     tie.close
@@ -91,6 +103,8 @@ write-spec =
     plant-short-requires
     enum-known-text-6
     plant-counts-requires
+    enum-known-text-7
+    plant-shares-requires
     same-length
     returns
     same-length-2
@@ -102,4 +116,6 @@ write-spec =
     same-length-5
     returns-5
     same-length-6
-    returns-6)
+    returns-6
+    same-length-7
+    returns-7)
