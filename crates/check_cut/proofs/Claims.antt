@@ -18,7 +18,7 @@ use Rattle.report.specs.Running.{Kept, keep}
 use Rattle.report.specs.Counts.{keptOf}
 use Rattle.report.proofs.Past.{tally-none}
 use Rattle.check_cut.specs.Cut.{countSize, cutPrintedBy, cutPrinted}
-use Rattle.pieces.specs.Pieces.{lastBy}
+use Rattle.standing.specs.Standing.{lastBy}
 use Rattle.check_cut.specs.Running.{planOf, blocksTold, toldBy, told}
 use Rattle.check_cut.specs.Claims.{Claims}
 use Rattle.check_cut.proofs.Parts.{blocks}

@@ -11,7 +11,7 @@ use Rattle.report.specs.declared.run.Plan.{Plan}
 use Rattle.report.specs.declared.run.Verdict.{Verdict}
 use Rattle.report.specs.declared.run.Verdict.the-variants as verdict
 use Rattle.report.specs.Running.{Kept}
-use Rattle.pieces.specs.Pieces.{lastBy}
+use Rattle.standing.specs.Standing.{lastBy}
 use Rattle.check_cut.specs.Running.{CutRan, followed, cutSecondIn, cutSecondsIn, blockBy, cutBlockIn, verdictOf, goesOn, blocksTold}
 
 -- ---- a list in two parts

@@ -24,10 +24,10 @@ use Rattle.report.specs.Text.{linesOf}
 use Rattle.report.specs.Counts.{keptOf}
 use Rattle.report.proofs.Past.{tally-none}
 use Rattle.report.proofs.Kept.{counted, taken, refused}
-use Rattle.pieces.specs.Printed.{Judged, judgedBy, judged, lastText, bookSeconds}
+use Rattle.printed.specs.Printed.{Judged, judgedBy, judged, lastText, bookSeconds}
 use Rattle.book.specs.Cut.{bytesBack}
 use Rattle.check_cut.specs.Cut.{bookText, nextBy, cutBy}
-use Rattle.pieces.specs.Pieces.{lastBy}
+use Rattle.standing.specs.Standing.{lastBy}
 use Rattle.check_cut.specs.Running.{CutRan, still, followed, openedBy, handedIn, beforeIn, judgedIn, cutSecondIn, cutSecondsIn, verdictOf}
 use Rattle.check_cut.proofs.Through.{afterText}
 use Rattle.check_cut.proofs.Parts.{ends, ends-after}

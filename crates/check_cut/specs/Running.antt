@@ -24,7 +24,7 @@ use Rattle.report.specs.declared.run.Verdict.{Verdict}
 use Rattle.report.specs.declared.run.Verdict.the-variants.{Accepted, Refused}
 use Rattle.report.specs.Running.{Kept, keep, Ran, refusedAt, secondIn, after, keptIn, KeptReady, Adds}
 use Rattle.report.specs.Text.{secondRoom}
-use Rattle.pieces.specs.Pieces.{lastBy}
+use Rattle.standing.specs.Standing.{lastBy}
 use Rattle.check_cut.specs.declared.seconds.Cut.{Cut}
 use Rattle.check_cut.specs.declared.Opening.{Opening}
 use Rattle.check_cut.specs.Cut.{countSize}

@@ -21,7 +21,7 @@ ghost use Rattle.record.specs.Record.{mostSeconds};
 ghost use Rattle.block.specs.Places.{blockSize};
 ghost use Rattle.block.specs.Book.{pastLast};
 ghost use Rattle.report.specs.Text.{textOf};
-ghost use Rattle.pieces.specs.Pieces.{lastBy};
+ghost use Rattle.standing.specs.Standing.{lastBy};
 ghost use Rattle.check_cut.specs.Running.{Opens, startBy, verdictOf, cutBlockRoom, Between, AfterBlock};
 
 // Room for the text of a block: a second's three rows, and a sum line before each.

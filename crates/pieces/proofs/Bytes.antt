@@ -1,19 +1,18 @@
 -- The bytes of a book in turn: cut anywhere; bytes that a block is due for, or none. Assumes nothing.
 use mathlib.Core.Path.{_≡_, refl, sym, ap, _∙_}
-use mathlib.Core.Bool.{Bool, true, false, cond}
+use mathlib.Core.Bool.{Bool, true, false}
 use mathlib.Core.List.{List, [], _∷_, _++_, append-assoc, append-nil}
-use Prim.Native.Nat.{ℕ, zero, suc, _+_, _≤_, _<_}
+use Prim.Native.Nat.{ℕ, _+_, _<_}
 use native.Mathlib.Omega.{arith}
-use lib.Dec.{eqb}
 use lib.ListN.{length, length-append}
 use borrow.Author.Tests.{eq-eqb, ne-eqb}
-use Rattle.block.specs.Header.{headerNumber}
 use Rattle.block.specs.Places.{blockSize}
 use Rattle.report.specs.declared.run.Verdict.{Verdict}
 use Rattle.report.specs.declared.run.Verdict.the-variants.{Accepted, Refused}
-use Rattle.pieces.specs.declared.standing.Standing.{Standing}
-use Rattle.report.specs.Running.{blockIn}
-use Rattle.pieces.specs.Pieces.{Went, unmoved, keptBy, withVerdict, headerBy, laterBy, beyondBy, isDue, standingIn, byteIn, onward, bytesIn}
+use Rattle.standing.specs.declared.Standing.{Standing}
+use Rattle.standing.specs.Standing.{Went, unmoved, withVerdict, beyondBy, isDue, standingIn}
+use Rattle.standing.proofs.Steps.{none-left, refused-not-due, beyond-is}
+use Rattle.pieces.specs.Pieces.{byteIn, onward, bytesIn}
 
 -- ---- cut in two
 
@@ -26,35 +25,7 @@ unfolding bytesIn
 cut st p [] ys = refl
 cut st p (b ∷ xs) ys = cut-more (byteIn st p b) xs ys (cut (byteIn st p b .standing) (byteIn st p b .part) xs ys)
 
--- ---- no bytes are left over from a block
-
-pub none-left : (st : Standing) (s : List ℕ) → standingIn st s .part ≡ []
-unfolding standingIn
-none-left st s = go (isDue st) (eqb (st .next) 0) (headerNumber s) (st .verdict)
-  where
-    header-part : (n : ℕ) → headerBy n st s .part ≡ []
-    header-part zero = refl
-    header-part (suc n) = refl
-
-    beyond-part : (v : Verdict) (l : List ℕ) → beyondBy v st l .part ≡ []
-    beyond-part (Refused n) l = refl
-    beyond-part Accepted [] = refl
-    beyond-part Accepted (b ∷ l) = refl
-
-    go : (d z : Bool) (n : ℕ) (v : Verdict) → cond d (cond z (headerBy n st s) (laterBy (blockIn (st .plan) (st .next) (keptBy st) s) st)) (beyondBy v st s) .part ≡ []
-    go true true n v = header-part n
-    go true false n v = refl
-    go false z n v = beyond-part v s
-
 -- ---- bytes that no block is due for
-
-pub refused-not-due : (st : Standing) {n : ℕ} → st .verdict ≡ Refused n → isDue st ≡ false
-unfolding isDue
-refused-not-due st e = rw e
-
-pub beyond-is : (st : Standing) (s : List ℕ) → isDue st ≡ false → standingIn st s ≡ beyondBy (st .verdict) st s
-unfolding standingIn
-beyond-is st s e = rw e
 
 byte-beyond : (st : Standing) (p : List ℕ) (b : ℕ) → isDue st ≡ false → byteIn st p b ≡ beyondBy (st .verdict) st (b ∷ [])
 byte-beyond st p b e = rw e (beyond-is st (b ∷ []) e)

@@ -10,13 +10,14 @@ use Rattle.block.specs.Places.{blockSize}
 use Rattle.codec.specs.Put.{Put}
 use Rattle.codec.proofs.Puts.{kept, both, sized, loosen, none}
 use Rattle.report.specs.Text.{blockRoom}
-use Rattle.pieces.specs.declared.standing.Standing.{Standing}
-use Rattle.pieces.specs.declared.standing.Advance.{Advance}
+use Rattle.standing.specs.declared.Standing.{Standing}
+use Rattle.standing.specs.declared.Advance.{Advance}
+use Rattle.standing.specs.Standing.{Went, beyondBy, isDue, standingIn, StandingReady, Advances}
+use Rattle.standing.proofs.Steps.{none-left, beyond-is, beyond-text}
 use Rattle.pieces.specs.declared.reading.Reading.{Reading}
 use Rattle.pieces.specs.declared.reading.Taken.{Taken}
-use Rattle.pieces.specs.Pieces.{Went, unmoved, pieceBlocks, BlocksRun, beyondBy, isDue, standingIn, onward, bytesIn, pieceSize, pieceRoom, StandingReady, Advances, partOf, ReadingReady, Takes, Fitting, Chunked}
-use Rattle.pieces.proofs.Bytes.{cut, none-left, beyond-is, beyond, filling, filled-up, whole-block}
-use Rattle.pieces.proofs.Steps.{beyond-text}
+use Rattle.pieces.specs.Pieces.{pieceBlocks, BlocksRun, onward, bytesIn, pieceSize, pieceRoom, partOf, ReadingReady, Takes, Fitting, Chunked}
+use Rattle.pieces.proofs.Bytes.{cut, beyond, filling, filled-up, whole-block}
 
 -- ---- the bytes of one block
 

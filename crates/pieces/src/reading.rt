@@ -1,8 +1,8 @@
 // A book taken in pieces of any size: whole blocks are run where they lie, and the bytes of one that comes in parts are gathered in an array.
-use crate::standing::Advance;
-use crate::standing::Standing;
 use report::Form;
 use report::Verdict;
+use standing::Advance;
+use standing::Standing;
 ghost use Prim.Native.Nat.{_+_, _*_, _≤_, _<_, min};
 ghost use mathlib.Core.Path.{_≡_};
 ghost use mathlib.Core.Bool.{true};
@@ -10,7 +10,8 @@ ghost use lib.ListN.{length};
 ghost use Rattle.codec.specs.Put.{Put};
 ghost use Rattle.block.specs.Places.{blockSize};
 ghost use Rattle.report.specs.Text.{blockRoom};
-ghost use Rattle.pieces.specs.Pieces.{isDue, bytesIn, lastIn, partOf, pieceBlocks, pieceSize, pieceRoom, endRoom, StandingReady, BlocksRun, ReadingReady, Fitting, Chunked, Takes, IsStart, Wanted};
+ghost use Rattle.standing.specs.Standing.{isDue, StandingReady};
+ghost use Rattle.pieces.specs.Pieces.{bytesIn, lastIn, partOf, pieceBlocks, pieceSize, pieceRoom, endRoom, BlocksRun, ReadingReady, Fitting, Chunked, Takes, IsStart, Wanted};
 
 // The most bytes that are taken at once, and the room that their text asks for, three lines a second.
 pub const PIECE: usize = PIECE_BLOCKS * block::SIZE;

@@ -4,7 +4,8 @@ use mathlib.Core.List.{List, [], _++_}
 use Prim.Native.Nat.{ℕ}
 use Rattle.pieces.specs.declared.reading.Reading.{Reading}
 use Rattle.pieces.specs.declared.reading.Taken.{Taken}
-use Rattle.pieces.specs.Pieces.{Went, onward, bytesIn, partOf, ReadingReady, Takes}
+use Rattle.standing.specs.Standing.{Went}
+use Rattle.pieces.specs.Pieces.{onward, bytesIn, partOf, ReadingReady, Takes}
 use Rattle.pieces.proofs.Bytes.{cut}
 use Rattle.stdio.specs.Turns.{After, AfterSome}
 

@@ -3,7 +3,7 @@ use mathlib.Core.Path.{sym, _∙_}
 use native.Mathlib.Omega.{arith}
 use borrow.Author.Tests.{not-true, not-false}
 use Rattle.pieces.specs.Pieces.{wantedIn}
-use Rattle.pieces.proofs.Steps.{due-block}
+use Rattle.standing.proofs.Steps.{due-block}
 use borrow.Author.Needs.{needs}
 use Rattle.pieces.proofs.reading.Reading.wanted.Statement.{statement}
 use Rattle.pieces.proofs.reading.Reading.wanted.Tie as tie

@@ -1,0 +1,3 @@
+pub mod Judged
+pub mod Told
+pub mod Claims
