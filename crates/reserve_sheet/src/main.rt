@@ -1,0 +1,99 @@
+// Prints the book on standard input with every figure of every row, as `reserve_rows` does, under the sheet whose 16 bytes stand before it; or why that
+// sheet is turned down. What is printed is `sheetPrinted` of specs/Printed.antt.
+use libc::STDIN_FILENO;
+use libc::STDOUT_FILENO;
+use power::Kw;
+use report::Form;
+use report::TextLine;
+use sheet::Sheet;
+ghost use mathlib.Core.Path.{_≡_};
+ghost use lib.ListN.{length};
+ghost use Rattle.reserve_sheet.specs.Form.{sheetSize, sheetOf, spareSet, formNumber, IsRead};
+
+// The bytes of a sheet.
+const SIZE: usize = 16;
+
+// Room for a refusal's line.
+const ROOM: usize = line::ROW_ROOM;
+
+// The figures, which are in range; or the refusal number.
+pub enum SheetReading {
+    Figures(Sheet),
+    Refused(u8),
+}
+
+fn sheet_of(s: &[u8]) -> Sheet
+    requires { ⌜ length (now s) ≡ sheetSize ⌝ }
+    ensures { λ r. ⌜ r ≡ sheetOf (now (s .entry)) ⌝ }
+{
+    Sheet {
+        fcr_floor: codec::wide(s[0]),
+        afrr_floor: codec::wide(s[1]),
+        excess: codec::wide(s[2]),
+        least_range: Kw(codec::read_i32(s, 8)),
+        fcr_reaction: codec::wide(s[3]),
+        afrr_reaction: codec::wide(s[4]),
+    }
+}
+
+fn is_spare_set(s: &[u8]) -> bool
+    requires { ⌜ length (now s) ≡ sheetSize ⌝ }
+    ensures { λ r. ⌜ r ≡ spareSet (now (s .entry)) ⌝ }
+{
+    if s[5] != 0 {
+        return true;
+    }
+    if s[6] != 0 {
+        return true;
+    }
+    if s[7] != 0 {
+        return true;
+    }
+    codec::read_u32(s, 12) != 0
+}
+
+// 12 for another length, 18 for a spare byte, 30 for a figure outside its range; or 0.
+fn form_number(s: &[u8]) -> u8
+    ensures { λ r. ⌜ r ≡ formNumber (now (s .entry)) ⌝ }
+{
+    if s.len() != SIZE {
+        return 12;
+    }
+    if is_spare_set(s) {
+        return 18;
+    }
+    if sheet_of(s).number() != 0 {
+        return 30;
+    }
+    0
+}
+
+// The sheet of any bytes.
+fn read(s: &[u8]) -> SheetReading
+    ensures { λ r. ⌜ IsRead (now (s .entry)) r ⌝ }
+{
+    let number = form_number(s);
+    if number != 0 {
+        return SheetReading::Refused(number);
+    }
+    SheetReading::Figures(sheet_of(s))
+}
+
+fn refuse(number: u8) {
+    let mut out = [0; ROOM];
+    let end = report::add(
+        &mut out,
+        0,
+        TextLine::Refusal { number, seconds: 0 },
+    );
+    io::write_all(STDOUT_FILENO, &out[..end]);
+}
+
+fn main() {
+    let mut bytes = [0; SIZE];
+    let n = io::read_full(STDIN_FILENO, &mut bytes);
+    match read(&bytes[..n]) {
+        SheetReading::Refused(number) => refuse(number),
+        SheetReading::Figures(sheet) => stdio::print_book(sheet, Form::Figures),
+    }
+}
