@@ -3,11 +3,11 @@ use mathlib.Core.Path.{refl}
 use Rattle.numbers.specs.Bounds.{outside}
 use Rattle.codec.specs.Little.{twosComplement}
 use Rattle.sheet.specs.Sheet.{defaultSheet, percentOut, rangeOut, fcrReactionOut, afrrReactionOut, sheetNumber}
-use Rattle.reserve_sheet.specs.Form.{sheetOf, spareSet, formNumber}
+use Rattle.reserve_sheet.specs.Form.{sheetOf, spareSet, figureOut, formNumber}
 use Rattle.reserve_sheet.specs.Values.{Values}
 
 pub values : Values
-unfolding outside twosComplement defaultSheet percentOut rangeOut fcrReactionOut afrrReactionOut sheetNumber sheetOf spareSet formNumber
+unfolding outside twosComplement defaultSheet percentOut rangeOut fcrReactionOut afrrReactionOut sheetNumber sheetOf spareSet figureOut formNumber
 values =
     record {
       default = refl;

@@ -31,9 +31,13 @@ sheetOf s =
 unfoldable pub spareSet : List ℕ → Bool
 spareSet s = differ (getD s 5 0) 0 || (differ (getD s 6 0) 0 || (differ (getD s 7 0) 0 || differ (u32At s 12) 0))
 
--- 12 for another length, as a short block has it; 18 for a spare byte; then "30 when a figure is outside its range"
+-- "when a figure is outside its range"
+unfoldable pub figureOut : List ℕ → Bool
+figureOut s = differ (sheetNumber (sheetOf s)) 0
+
+-- 12 for another length, as a short block has it; 18 for a spare byte; then 30
 abbrev pub formRules : List ℕ → List Rule
-formRules s = refuse 12 (differ (length s) sheetSize) ∷ refuse 18 (spareSet s) ∷ refuse 30 (differ (sheetNumber (sheetOf s)) 0) ∷ []
+formRules s = refuse 12 (differ (length s) sheetSize) ∷ refuse 18 (spareSet s) ∷ refuse 30 (figureOut s) ∷ []
 
 unfoldable pub formNumber : List ℕ → ℕ
 formNumber s = first (formRules s)

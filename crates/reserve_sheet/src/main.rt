@@ -8,7 +8,7 @@ use report::TextLine;
 use sheet::Sheet;
 ghost use mathlib.Core.Path.{_≡_};
 ghost use lib.ListN.{length};
-ghost use Rattle.reserve_sheet.specs.Form.{sheetSize, sheetOf, spareSet, formNumber, IsRead};
+ghost use Rattle.reserve_sheet.specs.Form.{sheetSize, sheetOf, spareSet, figureOut, formNumber, IsRead};
 
 // The bytes of a sheet.
 const SIZE: usize = 16;
@@ -49,7 +49,20 @@ fn is_spare_set(s: &[u8]) -> bool
     if s[7] != 0 {
         return true;
     }
-    codec::read_u32(s, 12) != 0
+    if codec::read_u32(s, 12) != 0 {
+        return true;
+    }
+    false
+}
+
+fn is_figure_out(s: &[u8]) -> bool
+    requires { ⌜ length (now s) ≡ sheetSize ⌝ }
+    ensures { λ r. ⌜ r ≡ figureOut (now (s .entry)) ⌝ }
+{
+    if sheet_of(s).number() != 0 {
+        return true;
+    }
+    false
 }
 
 // 12 for another length, 18 for a spare byte, 30 for a figure outside its range; or 0.
@@ -62,7 +75,7 @@ fn form_number(s: &[u8]) -> u8
     if is_spare_set(s) {
         return 18;
     }
-    if sheet_of(s).number() != 0 {
+    if is_figure_out(s) {
         return 30;
     }
     0
