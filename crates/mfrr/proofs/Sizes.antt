@@ -32,7 +32,7 @@ percent-within per p h z w =
     let m : per * p ≤ per * mostPercent = mul-le-mul-left per h in
     times-within mostReserve (per * p / 100) z w (omega arith)
 
-pub factor-most : (sh : Sheet) → InRange sh → factor sh ≤ mostPercent
+factor-most : (sh : Sheet) → InRange sh → factor sh ≤ mostPercent
 factor-most sh r = omega (arith, r .excess)
 
 pub factor-within : (sh : Sheet) → InRange sh → (e : ℤ) → Within mostReserve e → Within (mostLimit * perKw sh) (timesFactor sh e)
