@@ -6,7 +6,6 @@ use mathlib.Core.Bool.{Bool, true, false, cond}
 use mathlib.Core.List.{List, [], _∷_, _++_}
 use lib.Dec.{eqb}
 use lib.ListN.{take, drop}
-use Rattle.sheet.specs.Sheet.{defaultSheet}
 use Rattle.codec.specs.Little.{u32At}
 use Rattle.record.specs.Record.{mostSeconds}
 use Rattle.book.specs.Cut.{bytesBack}
@@ -110,8 +109,8 @@ abbrev pub planOf : List ℕ → Plan
 planOf head = record { form = Figures; owner = ownerOf head; seconds = secondsOf head }
 
 abbrev pub toldBy : ℕ → ℕ → List ℕ → List ℕ → List ℕ
-toldBy zero at head s = blocksTold (planOf head) at 1 (lastBlock (secondsOf head)) (keep (fresh defaultSheet) tally.zero) false s
-toldBy (suc n) at head s = lastBy (Refused (suc n)) (fresh defaultSheet)
+toldBy zero at head s = blocksTold (planOf head) at 1 (lastBlock (secondsOf head)) (keep fresh tally.zero) false s
+toldBy (suc n) at head s = lastBy (Refused (suc n)) fresh
 
 -- the texts of the count, the header and the blocks, one after the other
 unfoldable pub told : List ℕ → List ℕ
@@ -131,7 +130,7 @@ pub record Opens (s : List ℕ) (r : Opening) : Type 0 where
 
 -- before the first second
 abbrev pub startBy : Verdict → Cut
-startBy v = record { run = record { book = fresh defaultSheet; tally = tally.zero; used = 0; verdict = v }; handed = false }
+startBy v = record { run = record { book = fresh; tally = tally.zero; used = 0; verdict = v }; handed = false }
 
 -- room for the lines of a second and the sum line before it, and for those of a block
 abbrev pub cutRoom : ℕ

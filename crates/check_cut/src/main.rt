@@ -1,5 +1,5 @@
 // For the gate alone (02, W7): reads a count of 4 bytes, the lowest first, and a book; prints the book's rows, handed over before that second is
-// judged, and the sum line of each part, under the default sheet. What is printed is `cutPrinted` of specs/Cut.antt. A read or write that fails ends it.
+// judged, and the sum line of each part. What is printed is `cutPrinted` of specs/Cut.antt. A read or write that fails ends it.
 mod seconds;
 
 use block::Header;
@@ -12,7 +12,6 @@ use report::Run;
 use report::TextLine;
 use report::Verdict;
 use seconds::Cut;
-use sheet::default_sheet;
 use tally::Tally;
 ghost use mathlib.Core.Path.{_≡_};
 ghost use mathlib.Core.Bool.{true};
@@ -69,7 +68,7 @@ fn start(verdict: Verdict) -> Cut
 {
     Cut {
         run: Run {
-            book: Book::new(default_sheet()),
+            book: Book::new(),
             tally: Tally::new(),
             used: 0,
             verdict,

@@ -1,7 +1,7 @@
 // The seconds of a book that is handed over once, before second `at` is judged (02, W7): up to there they are run as in every book, from there on
 // in the next book, with the delivery ends of their calls in its seconds.
 use block::Block;
-use book::OpenAnswer;
+use book::HandOverAnswer;
 use report::Plan;
 use report::Run;
 use report::TextLine;
@@ -72,7 +72,7 @@ fn hand_over(run: Run, out: &mut [u8]) -> Cut
     let book = next.book;
     let answer = next.answer;
     match answer {
-        OpenAnswer::Opened => Cut {
+        HandOverAnswer::Opened => Cut {
             run: Run {
                 book,
                 tally: Tally::new(),
@@ -81,7 +81,7 @@ fn hand_over(run: Run, out: &mut [u8]) -> Cut
             },
             handed: true,
         },
-        OpenAnswer::Refused(number) => Cut {
+        HandOverAnswer::Refused(number) => Cut {
             run: Run {
                 book,
                 tally,
