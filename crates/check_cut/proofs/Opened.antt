@@ -14,9 +14,11 @@ use Rattle.report.specs.declared.Form.the-variants.{Figures}
 use Rattle.report.specs.declared.run.Plan.{Plan}
 use Rattle.report.specs.declared.run.Verdict.the-variants.{Accepted, Refused}
 use Rattle.report.specs.Running.{keptIn}
+use Rattle.cut.specs.Running.{verdictOf, cutBlockIn}
+use Rattle.cut_run.specs.declared.Cut.{Cut}
+use Rattle.cut_run.specs.Adding.{cutBlockRoom, CutAdds}
 use Rattle.check_cut.specs.declared.Opening.{Opening}
-use Rattle.check_cut.specs.declared.seconds.Cut.{Cut}
-use Rattle.check_cut.specs.Running.{verdictOf, openingBy, Opens, cutBlockIn, cutBlockRoom, CutAdds, AfterBlock}
+use Rattle.check_cut.specs.Running.{openingBy, Opens, AfterBlock}
 
 module _ (s : List ℕ) where
   pub header-taken : {r : Header} {o t : ℕ} → r ≡ header.Fields o t → headerSays r ≡ headerOf s → Opens s (record { plan = record { form = Figures; owner = o; seconds = t }; verdict = Accepted })

@@ -1,3 +1,1 @@
-pub mod Cut
 pub mod Running
-pub mod Claims

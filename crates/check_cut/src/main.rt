@@ -1,9 +1,8 @@
 // For the gate alone (02, W7): reads a count of 4 bytes, the lowest first, and a book; prints the book's rows, handed over before that second is
-// judged, and the sum line of each part. What is printed is `cutPrinted` of specs/Cut.antt. A read or write that fails ends it.
-mod seconds;
-
+// judged, and the sum line of each part. What is printed is `cutPrinted` of crate `cut`. A read or write that fails ends it.
 use block::Header;
 use book::Book;
+use cut_run::Cut;
 use libc::STDIN_FILENO;
 use libc::STDOUT_FILENO;
 use report::Form;
@@ -11,7 +10,6 @@ use report::Plan;
 use report::Run;
 use report::TextLine;
 use report::Verdict;
-use seconds::Cut;
 use tally::Tally;
 ghost use mathlib.Core.Path.{_≡_};
 ghost use mathlib.Core.Bool.{true};
@@ -22,7 +20,9 @@ ghost use Rattle.block.specs.Places.{blockSize};
 ghost use Rattle.block.specs.Book.{pastLast};
 ghost use Rattle.report.specs.Text.{textOf};
 ghost use Rattle.standing.specs.Standing.{lastBy};
-ghost use Rattle.check_cut.specs.Running.{Opens, startBy, verdictOf, cutBlockRoom, Between, AfterBlock};
+ghost use Rattle.cut.specs.Running.{verdictOf};
+ghost use Rattle.cut_run.specs.Adding.{cutBlockRoom};
+ghost use Rattle.check_cut.specs.Running.{Opens, startBy, Between, AfterBlock};
 
 // Room for the text of a block: a second's three rows, and a sum line before each.
 const ROOM: usize = block::PER_BLOCK * 4 * line::ROW_ROOM;
@@ -132,7 +132,7 @@ fn one_block(cut: Cut, plan: Plan, at: u32, n: u32, bytes: &mut [u8], out: &mut 
     ensures { λ r. ⌜ AfterBlock plan at n cut (r .cut) ⌝ }
 {
     let len = io::read_full(STDIN_FILENO, bytes);
-    let cut = seconds::block(cut, plan, at, n, &bytes[..len], out);
+    let cut = cut_run::block(cut, plan, at, n, &bytes[..len], out);
     let run = cut.run;
     let sent = send(out, run.used);
     Turn {

@@ -1,0 +1,3 @@
+pub mod Cut
+pub mod Running
+pub mod Claims

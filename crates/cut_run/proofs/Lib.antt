@@ -1,0 +1,4 @@
+pub mod Moved
+pub mod Handed
+pub mod Through
+pub mod Answered
