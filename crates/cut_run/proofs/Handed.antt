@@ -10,7 +10,7 @@ use Rattle.codec.specs.Put.{Put}
 use Rattle.codec.proofs.Puts.{both, loosen, none}
 use Rattle.book.specs.declared.Book.{Book}
 use Rattle.book.specs.declared.HandOver.{HandOver}
-use Rattle.book.specs.declared.HandOverAnswer.the-variants as answer
+use Rattle.book.specs.declared.OpenAnswer.the-variants as answer
 use Rattle.book.specs.HandOver.{handOverNumber, handedOver, handOverBy, handOverIn, HandedOver, handOverNumberIn}
 use Rattle.tally.specs.declared.Tally.{Tally}
 use Rattle.tally.specs.Tally as tally
