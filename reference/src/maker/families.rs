@@ -79,6 +79,12 @@ pub fn make_under(sheet: &Sheet, seed: u64, family: Option<&str>) -> Result<Made
         "edge-shares" => (array::from_fn(|_| edge_shares(&mut random)), random.within(50, 1_000)),
         "edge-switches" => (array::from_fn(|_| edge_switches(&mut random)), random.within(1_900, 4_600)),
         "wild" => (array::from_fn(|_| wild(&mut random)), random.within(50, 2_000)),
+        "sheet" => {
+            let is_long = turn % 4 == 0;
+            let count = if is_long { random.within(1_850, 2_800) } else { random.within(700, 1_500) };
+            let place = |plant: usize| (plant as u64 + turn / 4) % 3;
+            (array::from_fn(|plant| about_sheet(sheet, place(plant), is_long, &mut random)), count)
+        }
         "broken" => return Ok(broken::make(turn, owner, &mut random)),
         "long" => return Ok(long(seed, 90_000)),
         other => return Err(format!("no family {}", other)),
@@ -339,6 +345,42 @@ fn edge_switches(random: &mut Random) -> Track {
         faults: random.pick(&[Faults::Never, Faults::BitAlone, Faults::BitAlone, Faults::Anywhere(300), Faults::BeforeQuarters]),
         errors: random.pick(&[Errors::Noise(200), Errors::AtBands, Errors::Measured(Values::Uniform(-900, 900))]),
         next_call: random.within(0, 100),
+        ..Track::still()
+    }
+}
+
+/// Every figure of a sheet at once: changes about its times, held powers of any whole kW, calls one into the other; in long
+/// books two plants have a single call, which comes to its ramp down. The plants' places in turn say which of them has what.
+fn about_sheet(sheet: &Sheet, place: u64, is_long: bool, random: &mut Random) -> Track {
+    let (r, w, q) = (sheet.fcr_reaction, sheet.fcr_time(), sheet.afrr_reaction);
+    let most = random.pick(&[3_000, 30_000]);
+    let held = Values::Uniform(0, most);
+    Track {
+        fcr_held: Mover::new(held, &[150, 400]),
+        deviation: match random.index(3) {
+            0 => Mover::new(Values::Uniform(-210, 210), [1, r, r + 1, w, w + 1]),
+            1 => Mover::new(Values::Uniform(-210, 210), [r, r + 1, w, w + 1, w + 20]),
+            _ => Mover::new(Values::Walk(30, -210, 210), &[1, 2]),
+        },
+        up: Mover::new(held, &[100, 300]),
+        down: Mover::new(held, &[100, 301]),
+        afrr: match random.index(2) {
+            _ if place == 0 => Mover::new(Values::Near(sheet.least_range), [q, q + 1, 40, 300 - q, 300, 301]),
+            0 => Mover::new(Values::Uniform(-most, most), [q, q + 1, 80, 300 - q, 300, 301]),
+            _ => Mover::new(Values::Walk(most / 4, -most, most), &[1, 3, 50]),
+        },
+        working_point: Mover::new(Values::Uniform(-most, most), &[90]),
+        calls: match place {
+            1 if is_long => Calls::Once(0),
+            2 if is_long => Calls::Once(random.within(1, 899)),
+            _ => random.pick(&[Calls::Every(60, 600), Calls::Every(300, 1_500)]),
+        },
+        targets: Values::Uniform(-most, most),
+        ends: if is_long { End::First } else { random.pick(&[End::First, End::Any]) },
+        switches: array::from_fn(|_| random.pick(&[Switch::On, Switch::Failing, Switch::Sometimes])),
+        faults: random.pick(&[Faults::BitAlone, Faults::Anywhere(400), Faults::BeforeQuarters]),
+        errors: random.pick(&[Errors::AtBands, Errors::AtBands, Errors::Noise(900)]),
+        next_call: random.within(0, 300),
         ..Track::still()
     }
 }
