@@ -61,7 +61,7 @@ impl Book {
             unit: Plant::open(sheet),
             a: Plant::open(sheet),
             b: Plant::open(sheet),
-            sums: Sums::default(),
+            ..Book::default()
         })
     }
 

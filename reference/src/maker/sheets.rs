@@ -193,7 +193,7 @@ fn refused_book(way: usize, sheet: &Sheet, random: &mut Random) -> Vec<u8> {
     book
 }
 
-/// The sheet of a case and its book. `round` counts the times that all cases came, `turn` is the case's own number.
+/// The sheet of a case, its book, and what the book is; `turn` is the case's place among all.
 fn sheet_and_book(case: Case, turn: u64, seed: u64, random: &mut Random) -> (Sheet, Vec<u8>, String) {
     let default = Sheet::default();
     let (sheet, family) = match case {
@@ -227,7 +227,7 @@ fn sheet_and_book(case: Case, turn: u64, seed: u64, random: &mut Random) -> (She
             return (sheet, short_book(seed), "short".to_string());
         }
         Case::OutsideAndRefused => {
-            let way = random.index(3);
+            let way = turn as usize / 2 % 3;
             let book = refused_book(way, &default, random);
             return (with(&default, turn as usize % 3, 51), book, format!("refused, way {}", way));
         }
