@@ -129,8 +129,8 @@ step-requires-2 : tie.Need-step-requires-2
 step-requires-2 c κs =
     let s = set-at (c .before) in
     let p = called (s .before) .record-passed in (
-      p .ready .fcr,
       p .ready .sheet,
+      p .ready .fcr,
       record {
         setpoint-range = rw (s .setpoints-of .ensures) (setpoint-within _ (record-at (s .before) .deviation .0) (p .passed .fcr-held .range));
         held-range = p .passed .fcr-held .range;
@@ -145,7 +145,7 @@ step-requires-3 : tie.Need-step-requires-3
 step-requires-3 c κs =
     let t = told-at (c .before .before .before) in
     let p = called t .record-passed in
-    (p .ready .afrr, p .ready .sheet, rw (c .afrr-second .ensures) (afrr-second-fair (self (start t) .seconds) (record-at t) (p .passed)))
+    (p .ready .sheet, p .ready .afrr, rw (c .afrr-second .ensures) (afrr-second-fair (self (start t) .seconds) (record-at t) (p .passed)))
 
 kinds-of-requires : tie.Need-kinds-of-requires
 kinds-of-requires c κs = search needs
@@ -179,8 +179,8 @@ row-with-requires c κs =
     let l = c .before .before .before in
     shareable _ _ _ _ _ _ _ _ (called (given-at l)) (kinds-given l)
 
-add-t23 : tie.Need-add-t23
-add-t23 c = let t = given-at (c .before .before .before .before .before) in omega (arith, called t .record-passed .passed .seconds)
+add-t24 : tie.Need-add-t24
+add-t24 c = let t = given-at (c .before .before .before .before .before) in omega (arith, called t .record-passed .passed .seconds)
 
 returns-3 : tie.Need-returns-3
 returns-3 c =
@@ -208,5 +208,5 @@ second-of-spec =
     step-requires-3
     kinds-of-requires
     row-with-requires
-    add-t23
+    add-t24
     returns-3)
