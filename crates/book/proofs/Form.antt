@@ -42,12 +42,13 @@ module _ (k : Book) (o : ℕ) (s : List ℕ) where
   by-refusal zero given h = absurd (h refl)
   by-refusal (suc n) given h = refl
 
+  same-sheet : (sh : Sheet) (c : Closed) (h : History) → k ≡ stateOf sh c h → k .sheet ≡ sh
+  unfolding stateOf
+  same-sheet sh c h p = ap (λ (b : Book). b .sheet) p
+
   by-past : Ready k → {r : BookStep} → r ≡ stepIn k (secondOf o s) → (sh : Sheet) (c : Closed) (h : History) → Accepted c h → k ≡ stateOf sh c h → OverPast sh c h (secondOf o s) r
   by-past ready e sh c h a p = rw (e, p) (over-past sh (subst InRange (same-sheet sh c h p) (ready .unit .sheet)) c h a (secondOf o s))
-    where
-      same-sheet : (sh : Sheet) (c : Closed) (h : History) → k ≡ stateOf sh c h → k .sheet ≡ sh
-      unfolding stateOf
-      same-sheet sh c h p = ap (λ (b : Book). b .sheet) p
+
 
   pub refused : {n : ℕ} → n ≡ formNumber (secondOf o s) → (n ≡ 0 → ⊥) → Ready k → Stepped k (secondOf o s) (record { answer = Refused n; book = k })
   unfolding stepIn

@@ -1,5 +1,5 @@
 -- A handover, by the length of the closing book. Assumes nothing.
-use mathlib.Core.Path.{_≡_, sym, ap, _∙_, subst}
+use mathlib.Core.Path.{_≡_, refl, sym, ap, _∙_, subst}
 use mathlib.Core.Bool.{Bool, true, false, not}
 use mathlib.Core.List.{List, [], _∷_}
 use Prim.Native.Nat.{ℕ, _%_}
@@ -11,7 +11,7 @@ use Rattle.row.specs.declared.sums.Sums.{Sums}
 use Rattle.mfrr.specs.Signal.{quarterHour}
 use Rattle.plant.specs.declared.PlantState.{PlantState}
 use Rattle.plant.specs.State as plant
-use Rattle.plant.proofs.Claims as plant-claims
+use Rattle.plant.specs.Seconds as plant-seconds
 use Rattle.book.specs.declared.Book.{Book}
 use Rattle.book.specs.declared.OpenAnswer.the-variants.{Opened, Refused}
 use Rattle.book.specs.Seconds.{BookSecond, History, Closed, unitBytes, aBytes, bBytes, pastOf, closedOf}
@@ -22,14 +22,18 @@ use Rattle.book.proofs.Sizes.{sums-none}
 
 -- ---- over the past
 
+plant-handed : (sh : Sheet) (c : plant-seconds.Closed) (h : plant-seconds.History) → plant.handedOver (plant.stateOf sh c h) ≡ plant.stateOf sh (h ∷ c) []
+unfolding plant.stateOf
+plant-handed sh c h = refl
+
 pub handed : (sh : Sheet) (c : Closed) (h : History) → handedOver (stateOf sh c h) ≡ stateOf sh (h ∷ c) []
 unfolding stateOf sumsOf
 handed sh c h =
     λ i. record {
       sheet = sh;
-      unit = plant-claims.handed-over sh (closedOf unitBytes c) (pastOf unitBytes h) i;
-      a = plant-claims.handed-over sh (closedOf aBytes c) (pastOf aBytes h) i;
-      b = plant-claims.handed-over sh (closedOf bBytes c) (pastOf bBytes h) i;
+      unit = plant-handed sh (closedOf unitBytes c) (pastOf unitBytes h) i;
+      a = plant-handed sh (closedOf aBytes c) (pastOf aBytes h) i;
+      b = plant-handed sh (closedOf bBytes c) (pastOf bBytes h) i;
       sums = noSums;
     }
 

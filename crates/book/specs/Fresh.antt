@@ -30,6 +30,7 @@ pub record FreshBook (sh : Sheet) (h : History) : Type 0 where
   pub state :
       stateOf sh [] h
       ≡ record {
+        sheet = sh;
         unit = plant-state.stateOf sh [] (pastOf unitBytes h);
         a = plant-state.stateOf sh [] (pastOf aBytes h);
         b = plant-state.stateOf sh [] (pastOf bBytes h);

@@ -28,7 +28,7 @@ asked s =
 
 module _ (p : tie.After-second-with) where
   abbrev start : tie.Start
-  start = p .before .before .before .before
+  start = p .before .before .before .before .before
 
   abbrev unit-answered : Answered (asked start .book .sheet) (asked start .book .unit) (asked start .unit) (pos 0) (pos 0)
   unit-answered = record { step = p .second-with .result; stepped = p .second-with .ensures }

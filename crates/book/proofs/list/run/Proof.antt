@@ -13,10 +13,10 @@ use Rattle.book.proofs.list.run.Statement.{statement}
 use Rattle.book.proofs.list.run.Tie as tie
 
 abbrev Inv-loop : tie.InvT-loop
-Inv-loop from list book₀ at₀ book at = (at ≤ length list) × Ready book × (bookAfter from (listedIn list) ≡ bookAfter book (listedIn (drop at list)))
+Inv-loop list book₀ at₀ book at = (at ≤ length list) × Ready book × (bookAfter book₀ (listedIn list) ≡ bookAfter book (listedIn (drop at list)))
 
 abbrev μ-loop : tie.MeasureT-loop
-μ-loop from list book₀ at₀ book at = length list - at
+μ-loop list book₀ at₀ book at = length list - at
 
 loop-holds : tie.Need-loop-holds Inv-loop μ-loop
 loop-holds c = (omega arith, search needs, refl)
@@ -48,7 +48,7 @@ loop-less c = search needs
 loop-again : tie.Need-loop-again Inv-loop μ-loop
 loop-again c =
     let i = c .before .before .before .before .before .before .before in
-    let l = i .before .before .before .args .list .now in
+    let l = i .before .before .args .list .now in
     let from = c .before .before .before .before .part-start .result in
     let end = c .before .before .before .part-end .result in (
       omega arith,
@@ -61,9 +61,9 @@ loop-again c =
 
 returns : tie.Need-returns Inv-loop μ-loop
 returns c =
-    let l = c .before .before .before .before .args .list .now in
+    let l = c .before .before .before .args .list .now in
     let i = c .before .loop in
-    ran _ (c .before .before .before .before .pre) (listedIn l) (i .book) (i .inv .2 ∙ ap (bookAfter (i .book)) (seconds-none l (i .at) (omega arith)) ∙ after-none (i .book))
+    ran _ (c .before .before .before .pre) (listedIn l) (i .book) (i .inv .2 ∙ ap (bookAfter (i .book)) (seconds-none l (i .at) (omega arith)) ∙ after-none (i .book))
 
 pub run-spec : {M : Type 1} → statement M
 run-spec =
