@@ -108,7 +108,7 @@ module _ (o t at : ℕ) where
   in-next [] c h m a = none-left (keptOf defaultSheet c h) true m ∙ last-is c h m
   in-next (s ∷ ss) c h m a = go (numberAt c h (later s)) refl (λ e. in-next ss c ((later s) ∷ h) m (e, a))
     where
-      go : (n : ℕ) → numberAt c h (later s) ≡ n → (numberAt c h (later s) ≡ 0 → told (keptOf defaultSheet c ((later s) ∷ h)) true ss m ≡ bookText c (judged defaultSheet Figures c ((later s) ∷ h) (moved ss)) m) → told (keptOf defaultSheet c h) true (s ∷ ss) m ≡ bookText c (judgedBy n Figures c h (later s) (judged defaultSheet Figures c ((later s) ∷ h) (moved ss))) m
+      go : (n : ℕ) → numberAt c h (later s) ≡ n → (numberAt c h (later s) ≡ 0 → told (keptOf defaultSheet c ((later s) ∷ h)) true ss m ≡ bookText c (judged defaultSheet Figures c ((later s) ∷ h) (moved ss)) m) → told (keptOf defaultSheet c h) true (s ∷ ss) m ≡ bookText c (judgedBy defaultSheet n Figures c h (later s) (judged defaultSheet Figures c ((later s) ∷ h) (moved ss))) m
       go zero e others =
           let lines = linesOf Figures (length h) (unitRowAt defaultSheet c h (later s)) (aRowAt defaultSheet c h (later s)) (bRowAt defaultSheet c h (later s)) in
           one-taken (keptOf defaultSheet c h) (keptOf defaultSheet c ((later s) ∷ h)) true s ss m lines

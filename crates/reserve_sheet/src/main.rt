@@ -7,7 +7,9 @@ use report::Form;
 use report::TextLine;
 use sheet::Sheet;
 ghost use mathlib.Core.Path.{_≡_};
+ghost use Prim.Native.Nat.{_≤_};
 ghost use lib.ListN.{length};
+ghost use Rattle.line.specs.Widths.{rowRoom};
 ghost use Rattle.reserve_sheet.specs.Form.{sheetSize, sheetOf, spareSet, figureOut, formNumber, IsRead};
 
 // The bytes of a sheet.
@@ -92,21 +94,26 @@ fn read(s: &[u8]) -> SheetReading
     SheetReading::Figures(sheet_of(s))
 }
 
-fn refuse(number: u8) {
-    let mut out = [0; ROOM];
-    let end = report::add(
-        &mut out,
-        0,
-        TextLine::Refusal { number, seconds: 0 },
-    );
-    io::write_all(STDOUT_FILENO, &out[..end]);
+fn send(out: &[u8], end: usize) -> bool
+    requires { ⌜ end ≤ length (now out) ⌝ }
+{
+    io::write_all(STDOUT_FILENO, &out[..end])
+}
+
+fn refuse(number: u8, out: &mut [u8])
+    requires { ⌜ rowRoom ≤ length (now out) ⌝ }
+{
+    let end = report::add(out, 0, TextLine::Refusal { number, seconds: 0 });
+    send(out, end);
 }
 
 fn main() {
     let mut bytes = [0; SIZE];
+    let mut out = [0; ROOM];
     let n = io::read_full(STDIN_FILENO, &mut bytes);
-    match read(&bytes[..n]) {
-        SheetReading::Refused(number) => refuse(number),
+    let reading = read(&bytes[..n]);
+    match reading {
+        SheetReading::Refused(number) => refuse(number, &mut out),
         SheetReading::Figures(sheet) => stdio::print_book(sheet, Form::Figures),
     }
 }

@@ -16,7 +16,7 @@ new-requires : tie.Need-new-requires Inv-loop μ-loop
 new-requires c κs = search needs
 
 loop-holds : tie.Need-loop-holds Inv-loop μ-loop
-loop-holds c = let s = c .before .before in (omega arith, c .new .ensures (s .args .sheet) (s .pre) .1)
+loop-holds c = let s = c .before in (omega arith, c .new .ensures (s .args .sheet) (s .pre) .1)
 
 slice-aggregate-second : tie.Need-slice-aggregate-second Inv-loop μ-loop
 slice-aggregate-second c = search needs
