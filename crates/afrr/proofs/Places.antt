@@ -22,20 +22,20 @@ place-none a b = ap (placeOf (pos 0)) (ago-none a b) ∙ go (b - (a - 1))
     go zero = refl
     go (suc n) = refl
 
--- in the window that begins q seconds ago
-module _ (q : ℕ) (v : ℤ) (p : List Kw) where
-  abbrev first : ℕ
-  first = q - 1
+-- in the window whose newest setpoint stands at the place `first` of the past
+module _ (first : ℕ) (v : ℤ) (p : List Kw) where
+  abbrev all : List Kw
+  all = drop first (newest window p)
 
   -- it is not among the first i
   abbrev pub Passed : ℕ → Type 0
-  Passed i = placeOf v (ago q window p) ≡ i + placeOf v (drop (i + first) (newest window p))
+  Passed i = placeOf v (all) ≡ i + placeOf v (drop (i + first) (newest window p))
 
   pub none-passed : Passed 0
   none-passed = let e : 0 + first ≡ first = omega arith in rw e (omega arith)
 
   module _ (i : ℕ) (passed : Passed i) where
-    pub found : i + first < window → isAt v (at p (i + first)) ≡ true → i ≡ placeOf v (ago q window p)
+    pub found : i + first < window → isAt v (at p (i + first)) ≡ true → i ≡ placeOf v (all)
     unfolding placeOf
     found h e =
         let here : placeOf v (drop (i + first) (newest window p)) ≡ 0 = rw (there window p (i + first) h, e) in
@@ -48,7 +48,7 @@ module _ (q : ℕ) (v : ℤ) (p : List Kw) where
         let n : i + 1 + first ≡ suc (i + first) = omega arith in
         rw n (omega arith)
 
-    pub nowhere : window ≤ i + first → i ≡ placeOf v (ago q window p)
+    pub nowhere : window ≤ i + first → i ≡ placeOf v (all)
     unfolding placeOf
     nowhere h =
         let here : placeOf v (drop (i + first) (newest window p)) ≡ 0 = rw (drop-of-length-le (newest window p) {i = i + first} (rw length-newest h)) in

@@ -1,6 +1,6 @@
 -- `afrr::place_of` meets its contract. The invariant: what is looked for is not among the places passed. Assumes nothing.
 use mathlib.Core.Path.{_≡_, sym, _∙_}
-use Prim.Native.Nat.{_≤_, _<_, _-_, _+_}
+use Prim.Native.Nat.{_≤_, _-_}
 use native.Mathlib.Omega.{arith}
 use borrow.Author.Needs.{needs}
 use Rattle.sheet.specs.Sheet.{window}
@@ -9,25 +9,22 @@ use Rattle.afrr.proofs.place_of.Statement.{statement}
 use Rattle.afrr.proofs.place_of.Tie as tie
 
 abbrev Inv-loop : tie.InvT-loop
-Inv-loop v past q i₀ end i = (i ≤ window - q + 1) × Passed q (v .0) past i
+Inv-loop v past first i₀ end i = (i ≤ window - first) × Passed first (v .0) past i
 
 abbrev μ-loop : tie.MeasureT-loop
-μ-loop v past q i₀ end i = window - q + 1 - i
+μ-loop v past first i₀ end i = window - first - i
 
-cast-q : tie.Need-cast-q Inv-loop μ-loop
-cast-q c = search needs
+cast-first : tie.Need-cast-first Inv-loop μ-loop
+cast-first c = search needs
+
+sub-first : tie.Need-sub-first Inv-loop μ-loop
+sub-first c = search needs
 
 sub-i-end : tie.Need-sub-i-end Inv-loop μ-loop
 sub-i-end c = search needs
 
-add-i-end : tie.Need-add-i-end Inv-loop μ-loop
-add-i-end c = search needs
-
 loop-holds : tie.Need-loop-holds Inv-loop μ-loop
-loop-holds c = let g = c .before .args in (search needs, none-passed (g .sheet .«afrr_reaction») (g .v .0) (g .t2))
-
-sub-k : tie.Need-sub-k Inv-loop μ-loop
-sub-k c = search needs
+loop-holds c = let g = c .before .args in (search needs, none-passed (g .sheet .«afrr_reaction» - 1) (g .v .0) (g .t2))
 
 add-k : tie.Need-add-k Inv-loop μ-loop
 add-k c = search needs
@@ -60,14 +57,10 @@ loop-again c =
 sub-result : tie.Need-sub-result Inv-loop μ-loop
 sub-result c = search needs
 
-add-result : tie.Need-add-result Inv-loop μ-loop
-add-result c = search needs
-
 returns-2 : tie.Need-returns-2 Inv-loop μ-loop
 returns-2 c =
     let l = c .before in
-    let q = l .before .before .args .sheet .«afrr_reaction» in
-    let e : l .loop .i ≡ window - q + 1 = omega arith in
+    let e : l .loop .i ≡ window - (l .before .before .args .sheet .«afrr_reaction» - 1) = omega arith in
     sym e ∙ nowhere _ _ _ (l .loop .i) (l .loop .inv .1) (omega (arith, l .before .before .pre .afrr-most))
 
 pub place-of-spec : {M : Type 1} → statement M
@@ -76,11 +69,10 @@ place-of-spec =
     (tie.spec
     Inv-loop
     μ-loop
-    cast-q
+    cast-first
+    sub-first
     sub-i-end
-    add-i-end
     loop-holds
-    sub-k
     add-k
     mul-k
     array-copy-out-k
@@ -90,5 +82,4 @@ place-of-spec =
     loop-less
     loop-again
     sub-result
-    add-result
     returns-2)
