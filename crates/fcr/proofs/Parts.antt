@@ -1,16 +1,18 @@
 -- What a kW weighs at each age in parts of the whole FCR time. Assumes nothing.
-use mathlib.Core.Path.{_≡_, refl, sym, ap, _∙_}
+use mathlib.Core.Path.{_≡_, refl}
 use mathlib.Core.Bool.{Bool, true, false, cond}
-use Prim.Native.Nat.{ℕ, suc, _-_, _/_, _≤_, _<_}
-use native.Mathlib.Nat.{mul-div-cancel}
+use Prim.Native.Nat.{ℕ, suc, _-_, _≤_, _<_}
 use native.Mathlib.Omega.{arith}
 use lib.IntN.{ℤ, pos}
+use mir.Syntax.{w64}
+use mir.Val.{toZ}
 use borrow.Author.Tests.{leb-true, leb-false}
 use Rattle.numbers.specs.Bounds.{Within}
+use Rattle.numbers.proofs.Fit.{within-unsigned}
 use Rattle.power.specs.Units.{mostPerKw}
 use Rattle.sheet.specs.declared.Sheet.{Sheet}
-use Rattle.sheet.specs.Sheet.{InRange, wholeTime, perKw, perTimePart}
-use Rattle.sheet.proofs.Sizes.{time-part, spread-most}
+use Rattle.sheet.specs.Sheet.{InRange, wholeTime, perTimePart}
+use Rattle.sheet.proofs.Sizes.{spread-most}
 use Rattle.fcr.specs.Band.{isEarly}
 use Rattle.fcr.specs.State.{mostAge, timeParts}
 
@@ -52,13 +54,17 @@ module _ (sh : Sheet) where
   pub parts-late : {z : ℤ} (a : ℕ) → isEarly sh a ≡ false → z ≡ pos (wholeTime sh - a) → z ≡ pos (timeParts sh a)
   parts-late a e h = rw e h
 
-  -- the grains of a part
-  pub part-is : InRange sh → perKw sh / wholeTime sh ≡ perTimePart sh
-  part-is r = ap (λ (n : ℕ). n / wholeTime sh) (sym (time-part sh)) ∙ mul-div-cancel (perTimePart sh) (omega (arith, r .fcr-least))
-
-  pub part-most : InRange sh → perTimePart sh < mostPerKw
-  unfolding perTimePart
-  part-most r = omega (arith, spread-most sh r)
-
   pub parts-within : InRange sh → (a : ℕ) → Within mostAge (pos (timeParts sh a))
   parts-within r a = record { within = omega (arith, parts-most a, r .fcr-most) }
+
+  -- the grains of a part: as they are, and as the machine reads them
+  module _ (r : InRange sh) where
+    pub part-most : perTimePart sh < mostPerKw
+    unfolding perTimePart
+    part-most = omega (arith, spread-most sh r)
+
+    pub part-within : Within mostPerKw (pos (perTimePart sh))
+    part-within = record { within = omega (arith, part-most) }
+
+    pub part-read : Within mostPerKw (toZ w64 (perTimePart sh))
+    part-read = within-unsigned mostPerKw mostPerKw w64 (perTimePart sh) part-most tt
