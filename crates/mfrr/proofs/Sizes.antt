@@ -8,7 +8,7 @@ use Rattle.numbers.specs.Bounds.{Within}
 use Rattle.numbers.proofs.Fit.{abs-neg}
 use Rattle.power.specs.Units.{grains, mostReserve, mostPercent, inGrains, percentOf}
 use Rattle.sheet.specs.declared.Sheet.{Sheet}
-use Rattle.sheet.specs.Sheet.{InRange, perKw, factor}
+use Rattle.sheet.specs.Sheet.{InRange, perKw}
 use Rattle.mfrr.specs.Limits.{point, timesFactor}
 use Rattle.mfrr.specs.State.{mostLimit}
 
@@ -32,9 +32,6 @@ percent-within per p h z w =
     let m : per * p ≤ per * mostPercent = mul-le-mul-left per h in
     times-within mostReserve (per * p / 100) z w (omega arith)
 
-factor-most : (sh : Sheet) → InRange sh → factor sh ≤ mostPercent
-factor-most sh r = omega (arith, r .excess)
-
 pub factor-within : (sh : Sheet) → InRange sh → (e : ℤ) → Within mostReserve e → Within (mostLimit * perKw sh) (timesFactor sh e)
 unfolding timesFactor
-factor-within sh r e w = percent-within (perKw sh) (factor sh) (factor-most sh r) e w
+factor-within sh r e w = percent-within (perKw sh) _ (omega (arith, r .excess)) e w
