@@ -13,7 +13,7 @@ use Rattle.book.specs.Seconds.{BookSecond}
 use Rattle.book.specs.declared.Book.{Book}
 use Rattle.book.specs.State.{fresh, stepIn, Ready}
 use Rattle.book.specs.Run.{bookAfter}
-use Rattle.book.specs.List.{split, listedIn, written, ListRan}
+use Rattle.book.specs.List.{split, listedIn, written, Listed, ListRan}
 use Rattle.book.proofs.Claims.{claims}
 
 split-same : (n m : ℕ) (s : List ℕ) → length s ≤ n → length s ≤ m → split n s ≡ split m s
@@ -43,14 +43,17 @@ pub seconds-none : (l : List ℕ) (i : ℕ) → length l ≤ i → listedIn (dro
 unfolding listedIn split
 seconds-none l i h = rw (drop-of-length-le l h)
 
--- what is written is read back: so a claim about every slice is one about every list of seconds
-pub read-back : (ss : List BookSecond) → listedIn (written ss) ≡ ss
+-- what is written is read back
+read-back : (ss : List BookSecond) → listedIn (written ss) ≡ ss
 unfolding written
 read-back [] = seconds-none [] 0 (omega arith)
 read-back (s ∷ ss) =
     more (s .owner) (length (s .bytes)) (s .bytes ++ written ss)
     ∙ (λ i. record { owner = s .owner; bytes = take-append-seam (s .bytes) (written ss) i } ∷ listedIn (drop-append-seam (s .bytes) (written ss) i))
     ∙ ap (λ (t : List BookSecond). s ∷ t) (read-back ss)
+
+pub listed : Listed
+listed = record { read-back = read-back }
 
 -- a part of at most k bytes from j on, and what is after it
 part-at : (l : List ℕ) (j k e : ℕ) → e ≡ j + min k (length (drop j l)) → (take k (drop j l) ≡ take (e - j) (drop j l)) × (drop k (drop j l) ≡ drop e l)

@@ -109,8 +109,8 @@ module _ (n : ℕ) (q : Sums) (u a b : Row) (d : ℤ) (r : SumsReady n q) (s : S
   unfolding sumsWith
   sums-more =
       record {
-        a = added _ _ (r .a) (actuals-small a (s .a-sized));
-        b = added _ _ (r .b) (actuals-small b (s .b-sized));
+        a = search (added, actuals-small);
+        b = search (added, actuals-small);
         «open» = added _ _ (r .«open») (open-small u a b (s .unit-sized) (s .a-sized) (s .b-sized));
         due = added _ _ (r .due) (s .due-small);
       }

@@ -4,10 +4,11 @@ use Rattle.record.specs.Record.{bitsOf}
 use Rattle.book.specs.Refusals.{formNumber}
 use Rattle.book.specs.HandOver.{handOverNumber}
 use Rattle.book.specs.Rows.{valuesOf}
+use Rattle.book.specs.State.{sumsWith}
 use Rattle.book.specs.Values.{Values}
 
 values : Values
-unfolding bitsOf formNumber handOverNumber valuesOf
+unfolding bitsOf formNumber handOverNumber valuesOf sumsWith
 values =
     record {
       twelve = refl;
@@ -26,4 +27,5 @@ values =
       b-part = refl;
       sold-by-a = refl;
       sold-by-b = refl;
+      summed = refl;
     }

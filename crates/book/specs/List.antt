@@ -24,6 +24,10 @@ unfoldable pub written : List BookSecond → List ℕ
 written [] = []
 written (s ∷ ss) = s .owner ∷ (length (s .bytes) ∷ (s .bytes ++ written ss))
 
+-- and read back, so that a claim about every slice is one about every such list. The proof is `listed` of proofs/Listed.antt.
+pub record Listed : Type 0 where
+  pub read-back : (ss : List BookSecond) → listedIn (written ss) ≡ ss
+
 -- what running the list from the book k gives: the book after it; and of a fresh book the whole claim holds
 pub record ListRan (k : Book) (ss : List BookSecond) (r : Book) : Type 0 where
   pub is : r ≡ bookAfter k ss

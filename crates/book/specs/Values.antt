@@ -8,6 +8,7 @@ use lib.ListN.{replicate, set}
 use Rattle.power.specs.Units.{kw}
 use Rattle.row.specs.declared.KindRow.{KindRow}
 use Rattle.row.specs.declared.Row.{Row}
+use Rattle.row.specs.declared.sums.Sums.{Sums}
 use Rattle.row.specs.Row.{offRounding, offRow}
 use Rattle.book.specs.declared.BookAnswer.{BookAnswer}
 use Rattle.book.specs.declared.BookAnswer.the-variants.{RefusedBy}
@@ -16,6 +17,8 @@ use Rattle.book.specs.Seconds.{BookSecond, unitBytes, aBytes, bBytes}
 use Rattle.book.specs.Refusals.{formNumber}
 use Rattle.book.specs.HandOver.{handOverNumber}
 use Rattle.book.specs.Rows.{Said, refused, refusedBy, valuesOf, soldByA, soldByB, answerBy, saidBy}
+use Rattle.book.specs.Sums.{kwSeconds}
+use Rattle.book.specs.State.{sumsWith}
 
 -- n bytes 0, with an owner byte
 abbrev pub zeros : ℕ → ℕ → BookSecond
@@ -37,6 +40,19 @@ rowOf f a m o = record { fcr = kindOf f; afrr = kindOf a; mfrr = kindOf m; «ope
 
 abbrev none : Row
 none = rowOf (pos 0) (pos 0) (pos 0) (pos 0)
+
+-- four sums
+abbrev pub sums : ℕ → ℕ → ℕ → ℕ → Sums
+sums a b o d = record { a = kwSeconds (pos a); b = kwSeconds (pos b); «open» = kwSeconds (pos o); due = kwSeconds (pos d) }
+
+-- with a second more, whose due is 5: U's values are 1000, 2000 and 3000, A's 10, 20 and 30, B's 100, 200 and 300; their opens 1, 2 and 4
+abbrev pub withSecond : Sums → Sums
+withSecond q =
+    sumsWith q
+    (rowOf (pos 1000) (pos 2000) (pos 3000) (pos 1))
+    (rowOf (pos 10) (pos 20) (pos 30) (pos 2))
+    (rowOf (pos 100) (pos 200) (pos 300) (pos 4))
+    (pos 5)
 
 -- the answer and what is said, where the numbers of U, A and B are these
 abbrev pub answered : ℕ → ℕ → ℕ → BookAnswer
@@ -66,3 +82,5 @@ pub record Values : Type 0 where
   -- owner 2: B sells aFRR, A the others; 0 and 7: A and B sell all
   pub sold-by-a : map (λ (o : ℕ). valuesOf (soldByA o) (rowOf (pos 1) (pos 10) (pos 100) (pos 1000))) (0 ∷ 1 ∷ 2 ∷ 4 ∷ 7 ∷ []) ≡ map (λ (n : ℕ). pos n) (111 ∷ 110 ∷ 101 ∷ 11 ∷ 0 ∷ [])
   pub sold-by-b : map (λ (o : ℕ). valuesOf (soldByB o) (rowOf (pos 1) (pos 10) (pos 100) (pos 1000))) (0 ∷ 1 ∷ 2 ∷ 4 ∷ 7 ∷ []) ≡ map (λ (n : ℕ). pos n) (0 ∷ 1 ∷ 10 ∷ 100 ∷ 111 ∷ [])
+  -- A's values go to a, B's to b, the open of all three to open; U's values to none
+  pub summed : withSecond (sums 10000 20000 30000 40000) ≡ sums 10060 20600 30007 40005

@@ -14,7 +14,8 @@ actuals-of-requires c κs = search needs
 plus-requires : tie.Need-plus-requires
 plus-requires c κs =
     let s = c .before .before .before .before .before in
-    rw (c .actuals-of .ensures) (sum-fits _ _ (s .pre .0 .a) (actuals-small _ (s .pre .1 .a-sized)))
+    let m = s .pre .1 in
+    rw (c .actuals-of .ensures) (sum-fits _ _ (s .pre .0 .a) (search actuals-small))
 
 actuals-of-requires-2 : tie.Need-actuals-of-requires-2
 actuals-of-requires-2 c κs = search needs
@@ -22,7 +23,8 @@ actuals-of-requires-2 c κs = search needs
 plus-requires-2 : tie.Need-plus-requires-2
 plus-requires-2 c κs =
     let s = c .before .before .before .before .before .before .before in
-    rw (c .actuals-of2 .ensures) (sum-fits _ _ (s .pre .0 .b) (actuals-small _ (s .pre .1 .b-sized)))
+    let m = s .pre .1 in
+    rw (c .actuals-of2 .ensures) (sum-fits _ _ (s .pre .0 .b) (search actuals-small))
 
 open-of-requires : tie.Need-open-of-requires
 open-of-requires c κs = search needs
