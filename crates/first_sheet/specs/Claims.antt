@@ -1,5 +1,5 @@
--- "With the minimum range set to 5,000 all definitions give what they gave" (02, W9), for every past and every second. The proof is `claims` of
--- proofs/Claims.antt.
+-- Under the sheet with document 01's figures (the default one, its least range set to 5,000) the definitions give what they gave before there was a sheet
+-- (W9), for every past and every second. The proof is `claims` of proofs/Claims.antt.
 use Prim.Native.Nat.{ℕ, _*_}
 use mathlib.Core.Path.{_≡_}
 use mathlib.Core.List.{List}
