@@ -49,7 +49,6 @@ module _ (k : Book) (o : ℕ) (s : List ℕ) where
   by-past : Ready k → {r : BookStep} → r ≡ stepIn k (secondOf o s) → (sh : Sheet) (c : Closed) (h : History) → Accepted c h → k ≡ stateOf sh c h → OverPast sh c h (secondOf o s) r
   by-past ready e sh c h a p = rw (e, p) (over-past sh (subst InRange (same-sheet sh c h p) (ready .unit .sheet)) c h a (secondOf o s))
 
-
   pub refused : {n : ℕ} → n ≡ formNumber (secondOf o s) → (n ≡ 0 → ⊥) → Ready k → Stepped k (secondOf o s) (record { answer = Refused n; book = k })
   unfolding stepIn
   refused {n} e h r =

@@ -147,7 +147,10 @@ fn plant_after_all() {
 
 fn owner_8() {
     let second = [0u8; record::BOOK_SIZE];
-    report(b"book-second-owner-8", book_number(default_sheet(), 8, &second));
+    report(
+        b"book-second-owner-8",
+        book_number(default_sheet(), 8, &second),
+    );
 }
 
 fn buffer_199() {
@@ -172,7 +175,10 @@ fn plant_short() {
 
 fn book_short() {
     let second = [0u8; 107];
-    report(b"book-second-107-bytes", book_number(default_sheet(), 0, &second));
+    report(
+        b"book-second-107-bytes",
+        book_number(default_sheet(), 0, &second),
+    );
 }
 
 fn main() {
