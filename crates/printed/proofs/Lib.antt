@@ -1,3 +1,4 @@
 pub mod Judged
 pub mod Told
 pub mod Claims
+pub mod Values

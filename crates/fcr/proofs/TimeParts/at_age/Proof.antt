@@ -26,7 +26,7 @@ returns c =
     let s = c .before .before .before .args in
     let w = c .before .before .whole-time in
     let small : w .result < kept = omega arith in
-    parts-early (s .sheet) (s .age) (search (tests, needs)) (search same ∙ ap pos (w .ensures))
+    parts-early (s .sheet) (s .age) (search tests) (search same ∙ ap pos (w .ensures))
 
 sub-t7 : tie.Need-sub-t7
 sub-t7 c = search needs
