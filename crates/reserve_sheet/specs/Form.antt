@@ -1,4 +1,4 @@
--- The 16 bytes of a sheet that stand before its book (D61): "FCR floor, aFRR floor, excess: a byte each; FCR and aFRR reaction time: a byte each; 3
+-- The 16 bytes of a sheet that stand before its book (D64): "FCR floor, aFRR floor, excess: a byte each; FCR and aFRR reaction time: a byte each; 3
 -- bytes 0; least range, 4 bytes little-endian, signed; 4 bytes 0".
 use Prim.Native.Nat.{ℕ, zero, suc}
 use mathlib.Core.Path.{_≡_}
