@@ -8,17 +8,13 @@ use Rattle.afrr.specs.Band.{largest, smallest, gradientBy, heldOf, nextU
 use Rattle.afrr.specs.Values.{FirstValues, FigureValues, OneValues, SixtyValues, Values}
 
 first : FirstValues
-unfolding maxZ minZ upperKw lowerKw newest defaultSheet firstSheet perKw largest smallest gradientBy heldOf nextUpper nextLower limitsBy lastLimits
+unfolding maxZ minZ upperKw lowerKw newest firstSheet perKw largest smallest gradientBy heldOf nextUpper nextLower limitsBy lastLimits
 first =
     record {
       lower-at-29 = refl;
       lower-at-30 = refl;
       lower-at-285 = refl;
       lower-at-286 = refl;
-      default-at-29 = refl;
-      default-at-30 = refl;
-      default-at-285 = refl;
-      default-at-286 = refl;
       carried-exact = refl;
       least-change = refl;
       dip-29-ago = refl;
@@ -35,46 +31,46 @@ first =
     }
 
 figures : FigureValues
-unfolding maxZ minZ upperKw lowerKw newest defaultSheet firstSheet perKw largest smallest gradientBy heldOf nextUpper nextLower limitsBy lastLimits
+unfolding maxZ minZ upperKw lowerKw newest defaultSheet perKw largest smallest gradientBy heldOf nextUpper nextLower limitsBy lastLimits
 figures =
     record {
       default-change = refl;
-      least-1-at-270 = refl;
-      least-1-at-271 = refl;
-      least-100000-at-1 = refl;
-      least-100000-at-134 = refl;
-      least-100000-at-135 = refl;
+      least-100000 = refl;
+      least-1-at-13 = refl;
+      least-1-at-14 = refl;
       floor-0 = refl;
       floor-50 = refl;
       floor-half = refl;
     }
 
 one : OneValues
-unfolding maxZ minZ upperKw lowerKw newest defaultSheet firstSheet perKw largest smallest gradientBy heldOf nextUpper nextLower limitsBy lastLimits
+unfolding maxZ minZ upperKw lowerKw newest perKw largest smallest gradientBy heldOf nextUpper nextLower limitsBy lastLimits
 one =
     record {
       lower-at-0 = refl;
       lower-at-1 = refl;
       dip-now = refl;
       dip-1-ago = refl;
-      dip-300-ago = refl;
-      dip-301-ago = refl;
+      gradient-1-ago = refl;
+      gradient-300-ago = refl;
+      gradient-301-ago = refl;
       peak-1-ago = refl;
       peak-2-ago = refl;
       carried-exact = refl;
-      change = refl;
     }
 
 sixty : SixtyValues
-unfolding maxZ minZ upperKw lowerKw newest defaultSheet firstSheet perKw largest smallest gradientBy heldOf nextUpper nextLower limitsBy lastLimits
+unfolding maxZ minZ upperKw lowerKw newest perKw largest smallest gradientBy heldOf nextUpper nextLower limitsBy lastLimits
 sixty =
     record {
       lower-at-59 = refl;
       lower-at-60 = refl;
       dip-59-ago = refl;
       dip-60-ago = refl;
-      dip-300-ago = refl;
-      dip-301-ago = refl;
+      gradient-59-ago = refl;
+      gradient-60-ago = refl;
+      gradient-300-ago = refl;
+      gradient-301-ago = refl;
       peak-60-ago = refl;
       peak-61-ago = refl;
       change = refl;

@@ -9,7 +9,7 @@ use Rattle.sheet.specs.declared.Sheet.{Sheet}
 use Rattle.sheet.specs.Sheet.{defaultSheet, firstSheet}
 use Rattle.sheet.specs.Values.{sheetOf}
 use Rattle.afrr.specs.declared.Second.{Second}
-use Rattle.afrr.specs.Band.{bandAt}
+use Rattle.afrr.specs.Band.{gradient, bandAt}
 
 -- a second with the setpoint s, and what is held up and down
 abbrev pub second : ℤ → ℤ → ℤ → Second
@@ -57,22 +57,21 @@ peak = second (pos mostReserve) (pos 0) (pos 0)
 abbrev pub afterPeak : Sheet → ℕ → ℤ
 afterPeak sh n = bandAt sh (replicate (n - 1) quiet ++ (peak ∷ [])) quiet .high .0
 
--- document 01's figures, and those that the default sheet shares with them
+-- the gradient, in grains, where the setpoint was -1,000,000 in the second n ago, and 0 in all others
+abbrev pub gradientAfter : Sheet → ℕ → ℤ
+gradientAfter sh n = gradient sh (replicate (n - 1) (kw (pos 0)) ++ (kw (negℤ (pos mostReserve)) ∷ []))
+
+-- by document 01's figures
 pub record FirstValues : Type 0 where
   -- "lower limit 0 at 29, 38 at 30, 9,482 at 285, 9,500 at 286": the 30 seconds of reaction, and s minus 5 %
   pub lower-at-29 : lowerAt firstSheet 29 ≡ pos 0
   pub lower-at-30 : lowerAt firstSheet 30 ≡ pos 38
   pub lower-at-285 : lowerAt firstSheet 285 ≡ pos 9482
   pub lower-at-286 : lowerAt firstSheet 286 ≡ pos 9500
-  -- a change of 10,000 kW is above either sheet's least range
-  pub default-at-29 : lowerAt defaultSheet 29 ≡ pos 0
-  pub default-at-30 : lowerAt defaultSheet 30 ≡ pos 38
-  pub default-at-285 : lowerAt defaultSheet 285 ≡ pos 9482
-  pub default-at-286 : lowerAt defaultSheet 286 ≡ pos 9500
   -- the last limit is carried exact: rounded each second it would be 49,943
   pub carried-exact : afterHeld firstSheet 3 ≡ pos 49944
-  -- 5,000 kW in 270 seconds
-  pub least-change : afterHeld firstSheet 270 ≡ pos 45000
+  -- 5,000 kW in 270 seconds: 500 in 27
+  pub least-change : afterHeld firstSheet 27 ≡ pos 49500
   -- "s(t-300) to s(t-30)": a second in which the dip counts, and one in which the limit falls by 5,000 / 270 alone
   pub dip-29-ago : afterDip firstSheet 29 ≡ pos 49981
   pub dip-30-ago : afterDip firstSheet 30 ≡ pos 46296
@@ -91,14 +90,13 @@ pub record FirstValues : Type 0 where
 
 -- what another least range or floor changes (02, W9)
 pub record FigureValues : Type 0 where
-  -- "The default range is now 1,000 kW": in 270 seconds
-  pub default-change : afterHeld defaultSheet 270 ≡ pos 49000
-  -- least ranges of 1 and 100,000 kW: what is left of 50,000
-  pub least-1-at-270 : afterHeld (withLeast 1) 270 ≡ pos 49999
-  pub least-1-at-271 : afterHeld (withLeast 1) 271 ≡ pos 49998
-  pub least-100000-at-1 : afterHeld (withLeast 100000) 1 ≡ pos 49629
-  pub least-100000-at-134 : afterHeld (withLeast 100000) 134 ≡ pos 370
-  pub least-100000-at-135 : afterHeld (withLeast 100000) 135 ≡ pos 0
+  -- "The default range is now 1,000 kW": 100 in 27 seconds
+  pub default-change : afterHeld defaultSheet 27 ≡ pos 49900
+  -- a least range of 100,000 kW: 10,000 in 27 seconds
+  pub least-100000 : afterHeld (withLeast 100000) 27 ≡ pos 40000
+  -- a least range of 1 kW: 49,999.05, which is 5 % of 999,981, is below 49,999 after 14 seconds of 1/270 kW, not after 13
+  pub least-1-at-13 : bandAt (withLeast 1) (replicate 12 quiet ++ (second (pos 0) (pos 999981) (pos 0) ∷ [])) quiet .high .0 ≡ pos 49999
+  pub least-1-at-14 : bandAt (withLeast 1) (replicate 13 quiet ++ (second (pos 0) (pos 999981) (pos 0) ∷ [])) quiet .high .0 ≡ pos 49998
   -- floors of 0 and 50 % of 10,000
   pub floor-0 : bandAt (withFloor 0) [] tenThousand .high .0 ≡ pos 10000
   pub floor-50 : bandAt (withFloor 50) [] tenThousand .high .0 ≡ pos 15000
@@ -111,13 +109,14 @@ pub record OneValues : Type 0 where
   pub lower-at-1 : lowerAt (withReaction 1) 1 ≡ pos 34
   pub dip-now : bandAt (withReaction 1) (allHeld ∷ []) dip .high .0 ≡ pos 49996
   pub dip-1-ago : bandAt (withReaction 1) (dip ∷ allHeld ∷ []) quiet .high .0 ≡ pos 46652
-  pub dip-300-ago : afterDip (withReaction 1) 300 ≡ pos 46655
-  pub dip-301-ago : afterDip (withReaction 1) 301 ≡ pos 49996
+  -- the window's far end: 1,000,000 kW or 1,000 kW over 299 seconds, a kW being 1,000 × 299 grains
+  pub gradient-1-ago : gradientAfter (withReaction 1) 1 ≡ pos 1000000000
+  pub gradient-300-ago : gradientAfter (withReaction 1) 300 ≡ pos 1000000000
+  pub gradient-301-ago : gradientAfter (withReaction 1) 301 ≡ pos 1000000
   pub peak-1-ago : afterPeak (withReaction 1) 1 ≡ pos mostReserve
   pub peak-2-ago : afterPeak (withReaction 1) 2 ≡ pos 996655
   -- 1,000 kW over 299 seconds, carried exact: rounded each second it would be 49,988
   pub carried-exact : afterHeld (withReaction 1) 3 ≡ pos 49989
-  pub change : afterHeld (withReaction 1) 299 ≡ pos 49000
 
 -- a reaction time of 60 seconds
 pub record SixtyValues : Type 0 where
@@ -125,11 +124,14 @@ pub record SixtyValues : Type 0 where
   pub lower-at-60 : lowerAt (withReaction 60) 60 ≡ pos 42
   pub dip-59-ago : afterDip (withReaction 60) 59 ≡ pos 49995
   pub dip-60-ago : afterDip (withReaction 60) 60 ≡ pos 45833
-  pub dip-300-ago : afterDip (withReaction 60) 300 ≡ pos 45833
-  pub dip-301-ago : afterDip (withReaction 60) 301 ≡ pos 49995
+  pub gradient-59-ago : gradientAfter (withReaction 60) 59 ≡ pos 1000000
+  pub gradient-60-ago : gradientAfter (withReaction 60) 60 ≡ pos 1000000000
+  pub gradient-300-ago : gradientAfter (withReaction 60) 300 ≡ pos 1000000000
+  pub gradient-301-ago : gradientAfter (withReaction 60) 301 ≡ pos 1000000
   pub peak-60-ago : afterPeak (withReaction 60) 60 ≡ pos mostReserve
   pub peak-61-ago : afterPeak (withReaction 60) 61 ≡ pos 995833
-  pub change : afterHeld (withReaction 60) 240 ≡ pos 49000
+  -- 1,000 kW over 240 seconds: 100 in 24
+  pub change : afterHeld (withReaction 60) 24 ≡ pos 49900
 
 pub record Values : Type 0 where
   pub first : FirstValues
