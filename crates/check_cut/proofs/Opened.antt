@@ -10,7 +10,7 @@ use Rattle.block.specs.Header.{headerNumber, headerOf, headerSays}
 use Rattle.block.specs.Said.{refused, answered}
 use Rattle.block.specs.Book.{pastLast}
 use Rattle.block.proofs.Taken.{header-fields, header-zero}
-use Rattle.report.specs.declared.Form.the-variants.{Figures}
+use Rattle.forms.specs.declared.Form.the-variants.{Figures}
 use Rattle.report.specs.declared.run.Plan.{Plan}
 use Rattle.report.specs.declared.run.Verdict.the-variants.{Accepted, Refused}
 use Rattle.report.specs.Running.{keptIn}

@@ -7,7 +7,7 @@ use Rattle.record.specs.Record.{mostSeconds}
 use Rattle.book.specs.State.{fresh}
 use Rattle.tally.specs.Tally as tally
 use Rattle.block.specs.Header.{headerNumber}
-use Rattle.report.specs.declared.Form.the-variants.{Figures}
+use Rattle.forms.specs.declared.Form.the-variants.{Figures}
 use Rattle.report.specs.declared.run.Plan.{Plan}
 use Rattle.report.specs.declared.run.Verdict.{Verdict}
 use Rattle.report.specs.declared.run.Verdict.the-variants.{Accepted, Refused}

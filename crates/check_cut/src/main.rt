@@ -3,12 +3,12 @@
 use block::Header;
 use book::Book;
 use cut_run::Cut;
+use forms::Form;
+use forms::TextLine;
 use libc::STDIN_FILENO;
 use libc::STDOUT_FILENO;
-use report::Form;
 use report::Plan;
 use report::Run;
-use report::TextLine;
 use report::Verdict;
 use tally::Tally;
 ghost use mathlib.Core.Path.{_≡_};
@@ -18,7 +18,7 @@ ghost use lib.ListN.{length};
 ghost use Rattle.record.specs.Record.{mostSeconds};
 ghost use Rattle.block.specs.Places.{blockSize};
 ghost use Rattle.block.specs.Book.{pastLast};
-ghost use Rattle.report.specs.Text.{textOf};
+ghost use Rattle.forms.specs.Text.{textOf};
 ghost use Rattle.standing.specs.Standing.{lastBy};
 ghost use Rattle.cut.specs.Running.{verdictOf};
 ghost use Rattle.cut_run.specs.Adding.{cutBlockRoom};
@@ -194,7 +194,7 @@ fn finish(turn: Turn, bytes: &mut [u8], out: &mut [u8])
     let run = cut.run;
     let verdict = run.verdict;
     let ending = end_of(verdict, bytes);
-    let end = report::add(out, 0, last_line(ending, run.book));
+    let end = forms::add(out, 0, last_line(ending, run.book));
     send(out, end);
 }
 

@@ -1,7 +1,7 @@
 -- The values hold, by computing. Assumes nothing.
 use mathlib.Core.Path.{refl}
 use lib.Ieee.{ofBits, toBits}
-use Rattle.line.specs.Text.{digitsIn, digits, decimal, field}
+use Rattle.digits.specs.Text.{digitsIn, digits, decimal, field}
 use Rattle.meters.specs.Binary32.{finiteBits, sizeOf, exactBits, nearestWhole, inMhz}
 use Rattle.meters.specs.Meters.{between, fairReading, fairAccuracy, usable, smaller, ofTwo, counting, exactDeviation, countOut, saidWith}
 use Rattle.choose_meter.specs.Records.{readingOf, meterAt, saidIn}

@@ -3,8 +3,8 @@ use Prim.Native.Nat.{ℕ, zero, suc, _+_, _*_, _/_, _-_, _<_}
 use mathlib.Core.List.{List, [], _∷_, _++_}
 use lib.ListN.{length, take, drop}
 use Rattle.codec.specs.Put.{Put}
-use Rattle.line.specs.Text.{ascii, digits, field}
-use Rattle.line.specs.Widths.{fieldWidth}
+use Rattle.digits.specs.Text.{ascii, digits, field}
+use Rattle.digits.specs.Widths.{fieldWidth}
 use Rattle.meters.specs.Meters.{Said, deviation, refused}
 use Rattle.choose_meter.specs.Records.{recordSize, saidIn}
 

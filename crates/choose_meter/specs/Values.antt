@@ -5,7 +5,7 @@ use mathlib.Core.List.{List, [], _∷_, _++_}
 use lib.IntN.{pos, negsuc}
 use lib.ListN.{replicate, take}
 use Rattle.codec.specs.Little.{le4}
-use Rattle.line.specs.Text.{ascii}
+use Rattle.digits.specs.Text.{ascii}
 use Rattle.meters.specs.Meters.{deviation, refused}
 use Rattle.choose_meter.specs.Records.{saidIn}
 use Rattle.choose_meter.specs.Printed.{lineText, printed}

@@ -29,11 +29,11 @@ fn put_answer(buf: &mut [u8], at: usize, answer: MeterAnswer) -> usize
     match answer {
         MeterAnswer::Deviation(f) => {
             let at = codec::put_byte(buf, at, b'0');
-            let at = line::put_millihertz(buf, at, f);
+            let at = digits::put_millihertz(buf, at, f);
             codec::put_byte(buf, at, b'\n')
         }
         MeterAnswer::Refused(number) => {
-            let at = line::put_count(buf, at, number as u32);
+            let at = digits::put_count(buf, at, number as u32);
             codec::put_byte(buf, at, b'\n')
         }
     }

@@ -15,12 +15,12 @@ use Rattle.book.specs.HandOver.{handOverNumber, closedHanded, pastHanded}
 use Rattle.book.proofs.Claims.{next-accepted}
 use Rattle.book.proofs.Handing.{handed}
 use Rattle.line.specs.Line.{sumText}
-use Rattle.report.specs.declared.Form.the-variants.{Figures}
+use Rattle.forms.specs.declared.Form.the-variants.{Figures}
 use Rattle.report.specs.declared.run.Plan.{Plan}
 use Rattle.report.specs.declared.run.Verdict.{Verdict}
 use Rattle.report.specs.declared.run.Verdict.the-variants as verdict
 use Rattle.report.specs.Running.{Kept, keep, Ran, secondIn, refusedAt}
-use Rattle.report.specs.Text.{linesOf}
+use Rattle.forms.specs.Text.{linesOf}
 use Rattle.report.specs.Counts.{keptOf}
 use Rattle.report.proofs.Past.{tally-none}
 use Rattle.report.proofs.Kept.{counted, taken, refused}

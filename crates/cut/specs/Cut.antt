@@ -11,7 +11,7 @@ use Rattle.book.specs.HandOver.{handOverNumber}
 use Rattle.block.specs.Places.{blockSize}
 use Rattle.block.specs.Header.{headerNumber, ownerOf, secondsOf}
 use Rattle.block.specs.Book.{blocksOf}
-use Rattle.report.specs.declared.Form.the-variants.{Figures}
+use Rattle.forms.specs.declared.Form.the-variants.{Figures}
 use Rattle.printed.specs.Printed.{Judged, judged, lastText, bookSeconds}
 
 -- a book after the closed ones c whose seconds give j: their rows, and the last line, where m is the number of what follows them, 0 where nothing is

@@ -15,7 +15,7 @@ use Rattle.block.specs.Header.{headerNumber, ownerOf, secondsOf}
 use Rattle.block.specs.Block.{blockNumber, countOf, secondsFrom}
 use Rattle.block.specs.Book.{lastBlock, pastLast}
 use Rattle.line.specs.Line.{sumText}
-use Rattle.report.specs.declared.Form.the-variants.{Figures}
+use Rattle.forms.specs.declared.Form.the-variants.{Figures}
 use Rattle.report.specs.declared.run.Plan.{Plan}
 use Rattle.report.specs.declared.run.Verdict.{Verdict}
 use Rattle.report.specs.declared.run.Verdict.the-variants.{Accepted, Refused}

@@ -21,7 +21,7 @@ use Rattle.report.specs.declared.run.Plan.{Plan}
 use Rattle.report.specs.declared.run.Run.{Run}
 use Rattle.report.specs.declared.run.Verdict.the-variants.{Accepted, Refused}
 use Rattle.report.specs.Running.{Kept, keep, secondIn, runOf, keptIn, KeptReady, Adds}
-use Rattle.report.specs.Text.{secondRoom}
+use Rattle.forms.specs.Text.{secondRoom}
 use Rattle.cut_run.specs.declared.Cut.{Cut}
 use Rattle.book.specs.Cut.{bytesBack}
 use Rattle.cut.specs.Running.{still, openedBy, handedIn, beforeIn, judgedIn, cutSecondIn}

@@ -6,7 +6,7 @@ use Rattle.block.specs.Places.{perBlock}
 use Rattle.line.specs.Widths.{rowRoom}
 use Rattle.report.specs.declared.run.Verdict.the-variants.{Accepted}
 use Rattle.report.specs.Running.{keptIn, KeptReady, Adds}
-use Rattle.report.specs.Text.{secondRoom}
+use Rattle.forms.specs.Text.{secondRoom}
 use Rattle.cut.specs.Running.{CutRan}
 use Rattle.cut_run.specs.declared.Cut.{Cut}
 

@@ -2,9 +2,9 @@
 // in the next book, with the delivery ends of their calls in its seconds.
 use block::Block;
 use book::HandOverAnswer;
+use forms::TextLine;
 use report::Plan;
 use report::Run;
-use report::TextLine;
 use report::Verdict;
 use tally::Tally;
 ghost use mathlib.Core.Path.{_≡_};
@@ -15,7 +15,7 @@ ghost use Rattle.record.specs.Record.{size, bookSize, movedBack};
 ghost use Rattle.block.specs.Places.{blockSize, perBlock};
 ghost use Rattle.block.specs.Block.{secondsFrom};
 ghost use Rattle.line.specs.Widths.{rowRoom};
-ghost use Rattle.report.specs.Text.{secondRoom};
+ghost use Rattle.forms.specs.Text.{secondRoom};
 ghost use Rattle.report.specs.Running.{secondIn, keptIn, KeptReady, Adds};
 ghost use Rattle.book.specs.Cut.{bytesBack};
 ghost use Rattle.cut.specs.Running.{handedIn, beforeIn, judgedIn, cutSecondIn, cutSecondsIn, cutBlockIn};
@@ -68,7 +68,7 @@ fn hand_over(run: Run, out: &mut [u8]) -> Cut
     let book = run.book;
     let tally = run.tally;
     let sums = book.sums;
-    let used = report::add(out, run.used, TextLine::Sums(sums));
+    let used = forms::add(out, run.used, TextLine::Sums(sums));
     let next = book.hand_over();
     let book = next.book;
     let answer = next.answer;

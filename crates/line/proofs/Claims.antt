@@ -13,17 +13,18 @@ use Rattle.row.specs.declared.Rounding.{Rounding}
 use Rattle.row.specs.declared.KindRow.{KindRow}
 use Rattle.row.specs.declared.Row.{Row}
 use Rattle.row.specs.declared.sums.Sums.{Sums}
-use Rattle.line.specs.Text.{ascii, digits, digitsIn, decimal, field, unsigned, named}
-use Rattle.line.specs.Widths.{lineRoom, rowRoom, plantWidth, kindWidth, roundingWidth, sumWidth}
+use Rattle.digits.specs.Text.{ascii, digits, digitsIn, decimal, field, unsigned, named}
+use Rattle.digits.specs.Widths.{sumWidth}
+use Rattle.line.specs.Widths.{lineRoom, rowRoom, plantWidth, kindWidth, roundingWidth}
 use Rattle.line.specs.Line.{plantText, secondText, sumText, refusalText, kindText, rowText}
 use Rattle.row.specs.Fits.{Rounding32, Kind32, Row32, Sums64}
 use Rattle.line.specs.Claims.{Lengths, Examples}
-use Rattle.line.proofs.Digits.{digits-by}
+use Rattle.digits.proofs.Digits.{digits-by}
 use Rattle.row.specs.Side.{sideOf}
 use Rattle.line.specs.Short.{outsideText, shortText, sideCountText, kindCountsText, countsText}
 use Rattle.line.specs.Shares.{roundingText, roundingsText, sharesText}
 use Rattle.line.proofs.Short.{short-most, counts-most}
-use Rattle.line.proofs.Lengths.{count-most, decimal-64, field-most, unsigned-most}
+use Rattle.digits.proofs.Lengths.{count-most, decimal-64, field-most, unsigned-most}
 
 plant-most : (l : ℕ) (x : Row) → Row32 x → length (plantText l x) ≤ plantWidth
 unfolding plantText

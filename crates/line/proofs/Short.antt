@@ -20,11 +20,11 @@ use Rattle.row.specs.Side.{sideOf, kwBelow, kwAbove}
 use Rattle.row.specs.Fits.{Kind32, Row32}
 use Rattle.row.proofs.Claims as row
 use Rattle.row.proofs.Sides.{excess}
-use Rattle.line.specs.Text.{ascii, digits}
+use Rattle.digits.specs.Text.{ascii, digits}
 use Rattle.line.specs.Widths.{rowRoom, nameWidth, sideWidth, outsideWidth, sideCountWidth, countsWidth}
 use Rattle.line.specs.Short.{outsideText, sideText, shortText, sideCountText, kindCountsText, countsText}
 use Rattle.line.specs.Claims.{Side64, KindSides64, Counts64, Silent}
-use Rattle.line.proofs.Lengths.{count-most, amount-most}
+use Rattle.digits.proofs.Lengths.{count-most, amount-most}
 
 -- ---- no line
 

@@ -17,7 +17,7 @@ use Rattle.row.specs.declared.side.KindCounts.{KindCounts}
 use Rattle.row.specs.declared.side.PlantCounts.{PlantCounts}
 use Rattle.row.specs.Row.{offRounding, offRow, kindsOf, AllInBand}
 use Rattle.row.specs.Fits.{Row32, Sums64}
-use Rattle.line.specs.Text.{ascii, decimal}
+use Rattle.digits.specs.Text.{ascii, decimal}
 use Rattle.line.specs.Widths.{lineRoom, rowRoom}
 use Rattle.line.specs.Line.{secondText, sumText, refusalText, rowText}
 use Rattle.line.specs.Short.{shortText, countsText}

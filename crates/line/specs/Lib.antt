@@ -1,4 +1,3 @@
-pub mod Text
 pub mod Widths
 pub mod Line
 pub mod Short

@@ -5,7 +5,7 @@ use mathlib.Core.List.{List, [], _∷_, _++_}
 use Rattle.row.specs.declared.KindRow.{KindRow}
 use Rattle.row.specs.declared.Row.{Row}
 use Rattle.row.specs.declared.sums.Sums.{Sums}
-use Rattle.line.specs.Text.{ascii, digits, field, named}
+use Rattle.digits.specs.Text.{ascii, digits, field, named}
 
 -- "each letter is followed by the actual values of FCR, aFRR, mFRR, then open"
 unfoldable pub plantText : ℕ → Row → List ℕ

@@ -3,7 +3,7 @@ use Prim.Native.Nat.{ℕ}
 use mathlib.Core.List.{List, [], _∷_, _++_}
 use Rattle.row.specs.declared.Rounding.{Rounding}
 use Rattle.row.specs.declared.Row.{Row}
-use Rattle.line.specs.Text.{ascii, digits, field, unsigned}
+use Rattle.digits.specs.Text.{ascii, digits, field, unsigned}
 
 -- of a kind: tolerance, rounded-down share, remainder over T, and the extra kW, 0 or 1
 unfoldable pub roundingText : Rounding → List ℕ

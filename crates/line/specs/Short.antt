@@ -8,7 +8,7 @@ use Rattle.row.specs.declared.side.SideCount.{SideCount}
 use Rattle.row.specs.declared.side.KindCounts.{KindCounts}
 use Rattle.row.specs.declared.side.PlantCounts.{PlantCounts}
 use Rattle.row.specs.Side.{sideOf}
-use Rattle.line.specs.Text.{ascii, digits}
+use Rattle.digits.specs.Text.{ascii, digits}
 
 -- ---- a second
 

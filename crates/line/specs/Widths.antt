@@ -1,5 +1,6 @@
 -- How much room a line asks for, and how many bytes its parts have at most.
 use Prim.Native.Nat.{ℕ, _+_, _*_}
+use Rattle.digits.specs.Widths.{countWidth, fieldWidth, unsignedWidth, sumWidth}
 
 -- "22 buffer under 200 bytes" (01, "When a book is turned down")
 abbrev pub lineRoom : ℕ
@@ -8,22 +9,6 @@ lineRoom = 200
 -- for the line with every figure of a row, and for the one of its shares
 abbrev pub rowRoom : ℕ
 rowRoom = 256
-
--- the digits of an unsigned 32-bit number
-abbrev pub countWidth : ℕ
-countWidth = 10
-
--- a space, and a signed 32-bit number
-abbrev pub fieldWidth : ℕ
-fieldWidth = 12
-
--- a space, and an unsigned 32-bit number
-abbrev pub unsignedWidth : ℕ
-unsignedWidth = 1 + countWidth
-
--- a 64-bit number, signed or not
-abbrev pub sumWidth : ℕ
-sumWidth = 20
 
 -- a space, a letter and four figures
 abbrev pub plantWidth : ℕ

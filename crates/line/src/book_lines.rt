@@ -1,17 +1,18 @@
 // The lines that the program prints: a second's, the sum line, and a refusal's.
 use crate::Answer;
 use crate::TOO_SMALL;
-use crate::number::put_count;
-use crate::number::put_field;
-use crate::number::put_sum;
+use digits::put_count;
+use digits::put_field;
+use digits::put_sum;
 use row::KwSeconds;
 use row::Row;
 use row::Sums;
 ghost use Prim.Native.Nat.{_+_, _≤_};
 ghost use lib.ListN.{length};
 ghost use Rattle.codec.specs.Put.{Put};
-ghost use Rattle.line.specs.Widths.{lineRoom, plantWidth, sumWidth};
-ghost use Rattle.line.specs.Text.{named};
+ghost use Rattle.digits.specs.Widths.{sumWidth};
+ghost use Rattle.line.specs.Widths.{lineRoom, plantWidth};
+ghost use Rattle.digits.specs.Text.{named};
 ghost use Rattle.line.specs.Line.{plantText, secondText, sumText, refusalText};
 ghost use Rattle.line.specs.Lined.{Lined};
 

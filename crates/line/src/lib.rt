@@ -1,8 +1,6 @@
 // The lines of a book as text (01, "Blocks and text"), into a buffer that the caller lends. A buffer with too little room gets 22
-// and stays as it was; else the answer is the line's length and the bytes past the line stay (specs/Lined.antt). And numbers for lines of other
-// crates.
+// and stays as it was; else the answer is the line's length and the bytes past the line stay (specs/Lined.antt).
 mod book_lines;
-mod number;
 mod row_lines;
 mod share_lines;
 mod short_lines;
@@ -12,8 +10,6 @@ ghost use Rattle.line.specs.Lined.{lengthIn};
 pub use book_lines::refusal_line;
 pub use book_lines::second_line;
 pub use book_lines::sum_line;
-pub use number::put_count;
-pub use number::put_millihertz;
 pub use row_lines::ROW_ROOM;
 pub use row_lines::plant_line;
 pub use share_lines::plant_shares;

@@ -1,8 +1,8 @@
 // The line of a plant with every figure of its row.
 use crate::Answer;
 use crate::TOO_SMALL;
-use crate::number::put_count;
-use crate::number::put_field;
+use digits::put_count;
+use digits::put_field;
 use row::KindRow;
 use row::Row;
 ghost use Prim.Native.Nat.{_+_, _≤_};

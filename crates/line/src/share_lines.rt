@@ -2,9 +2,9 @@
 use crate::Answer;
 use crate::ROW_ROOM;
 use crate::TOO_SMALL;
-use crate::number::put_count;
-use crate::number::put_field;
-use crate::number::put_unsigned;
+use digits::put_count;
+use digits::put_field;
+use digits::put_unsigned;
 use row::Rounding;
 use row::Row;
 ghost use Prim.Native.Nat.{_+_, _*_, _≤_};

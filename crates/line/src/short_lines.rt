@@ -2,8 +2,8 @@
 use crate::Answer;
 use crate::ROW_ROOM;
 use crate::TOO_SMALL;
-use crate::number::put_amount;
-use crate::number::put_count;
+use digits::put_amount;
+use digits::put_count;
 use row::BandSide;
 use row::KindCounts;
 use row::KindRow;

@@ -9,7 +9,7 @@ use lib.Seq.{take-at, take-all, take-add, length-take-le}
 use Rattle.block.specs.Places.{blockSize}
 use Rattle.codec.specs.Put.{Put}
 use Rattle.codec.proofs.Puts.{kept, both, sized, loosen, none}
-use Rattle.report.specs.Text.{blockRoom}
+use Rattle.forms.specs.Text.{blockRoom}
 use Rattle.standing.specs.declared.Standing.{Standing}
 use Rattle.standing.specs.declared.Advance.{Advance}
 use Rattle.standing.specs.Standing.{Went, beyondBy, isDue, standingIn, StandingReady, Advances}

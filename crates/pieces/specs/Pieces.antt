@@ -9,10 +9,10 @@ use lib.ListN.{length, take}
 use Rattle.block.specs.Places.{blockSize}
 use Rattle.codec.specs.Put.{Put}
 use Rattle.line.specs.Widths.{rowRoom}
-use Rattle.report.specs.declared.Form.{Form}
+use Rattle.forms.specs.declared.Form.{Form}
 use Rattle.report.specs.declared.run.Verdict.{Verdict}
 use Rattle.report.specs.declared.run.Verdict.the-variants.{Accepted, Refused}
-use Rattle.report.specs.Text.{countsOf, secondRoom, blockRoom}
+use Rattle.forms.specs.Text.{countsOf, secondRoom, blockRoom}
 use Rattle.standing.specs.declared.Standing.{Standing}
 use Rattle.standing.specs.declared.Advance.{Advance}
 use Rattle.standing.specs.Standing.{Went, unmoved, start, isDue, standingIn, lastLineIn, bytesDue, StandingReady, Advances}

@@ -1,5 +1,5 @@
 // A book taken in pieces of any size: whole blocks are run where they lie, and the bytes of one that comes in parts are gathered in an array.
-use report::Form;
+use forms::Form;
 use report::Verdict;
 use standing::Advance;
 use standing::Standing;
@@ -9,7 +9,7 @@ ghost use mathlib.Core.Bool.{true};
 ghost use lib.ListN.{length};
 ghost use Rattle.codec.specs.Put.{Put};
 ghost use Rattle.block.specs.Places.{blockSize};
-ghost use Rattle.report.specs.Text.{blockRoom};
+ghost use Rattle.forms.specs.Text.{blockRoom};
 ghost use Rattle.standing.specs.Standing.{isDue, StandingReady};
 ghost use Rattle.pieces.specs.Pieces.{bytesIn, lastIn, partOf, pieceBlocks, pieceSize, pieceRoom, endRoom, BlocksRun, ReadingReady, Fitting, Chunked, Takes, IsStart, Wanted};
 
@@ -199,7 +199,7 @@ impl Reading {
         let standing = self.standing;
         let plan = standing.plan;
         let form = plan.form;
-        let at = report::add_counts(out, 0, form, standing.tally);
-        report::add(out, at, standing.last_line())
+        let at = forms::add_counts(out, 0, form, standing.tally);
+        forms::add(out, at, standing.last_line())
     }
 }

@@ -9,14 +9,14 @@ use Rattle.book.specs.Refusals.{numberAt, Accepted, grown}
 use Rattle.book.specs.Rows.{unitRowAt, aRowAt, bRowAt}
 use Rattle.book.specs.Run.{accepted}
 use Rattle.book.specs.State.{stateOf, secondOf, stepIn}
-use Rattle.report.specs.declared.Form.{Form}
+use Rattle.forms.specs.declared.Form.{Form}
 use Rattle.report.specs.declared.run.Plan.{Plan}
 use Rattle.report.specs.declared.run.Verdict.{Verdict}
 use Rattle.report.specs.declared.run.Verdict.the-variants as verdict
 use Rattle.report.specs.Running.{Ran, secondsIn}
 use Rattle.report.specs.Counts.{keptOf}
 use Rattle.report.proofs.Kept.{grown-more, taken, refused}
-use Rattle.report.specs.Text.{linesOf}
+use Rattle.forms.specs.Text.{linesOf}
 use Rattle.printed.specs.Printed.{Judged, judgedBy, judged, bookSeconds}
 
 -- what a number says of the run

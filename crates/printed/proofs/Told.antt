@@ -17,7 +17,7 @@ use Rattle.block.specs.Places.{blockSize, perBlock}
 use Rattle.block.specs.Header.{headerNumber, ownerOf, secondsOf}
 use Rattle.block.specs.Block.{blockNumber, countOf, secondsFrom}
 use Rattle.block.specs.Book.{Held, heldBy, pastLast, laterBlocks, lastBlock, blocksOf}
-use Rattle.report.specs.declared.Form.{Form}
+use Rattle.forms.specs.declared.Form.{Form}
 use Rattle.report.specs.declared.run.Verdict.{Verdict}
 use Rattle.report.specs.declared.run.Verdict.the-variants as verdict
 use Rattle.report.specs.Running.{Kept, Ran, blockIn, secondsIn}

@@ -12,8 +12,8 @@ use Rattle.block.specs.Places.{blockSize}
 use Rattle.block.specs.Header.{headerNumber, ownerOf, secondsOf}
 use Rattle.block.specs.Book.{blocksOf}
 use Rattle.line.specs.Line.{sumText}
-use Rattle.report.specs.declared.Form.{Form}
-use Rattle.report.specs.Text.{countsOf}
+use Rattle.forms.specs.declared.Form.{Form}
+use Rattle.forms.specs.Text.{countsOf}
 use Rattle.report.specs.Counts.{tallyOf}
 use Rattle.standing.specs.declared.Standing.{Standing}
 use Rattle.standing.specs.Standing.{start}

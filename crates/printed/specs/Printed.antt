@@ -13,8 +13,8 @@ use Rattle.block.specs.Places.{blockSize}
 use Rattle.block.specs.Header.{headerNumber, ownerOf, secondsOf}
 use Rattle.block.specs.Book.{blocksOf}
 use Rattle.line.specs.Line.{sumText, refusalText}
-use Rattle.report.specs.declared.Form.{Form}
-use Rattle.report.specs.Text.{linesOf, countsOf}
+use Rattle.forms.specs.declared.Form.{Form}
+use Rattle.forms.specs.Text.{linesOf, countsOf}
 use Rattle.report.specs.Counts.{tallyOf}
 
 -- ---- the seconds judged in turn

@@ -13,7 +13,7 @@ use Rattle.block.proofs.Taken.{block-fields, block-zero, whole-block}
 use Rattle.codec.proofs.Puts.{loosen, none}
 use Rattle.report.specs.declared.run.Plan.{Plan}
 use Rattle.report.specs.declared.run.Verdict.the-variants.{Refused}
-use Rattle.report.specs.Text.{blockRoom}
+use Rattle.forms.specs.Text.{blockRoom}
 use Rattle.report.specs.Running.{Kept, refusedAt, secondsIn, blockBy, blockIn, runOf, keptIn, KeptReady, Adds}
 
 module _ (p : Plan) (n : ℕ) (s : List ℕ) where

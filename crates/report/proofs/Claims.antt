@@ -18,7 +18,7 @@ use Rattle.book.specs.Run.{accepted}
 use Rattle.book.specs.State.{fresh}
 use Rattle.tally.specs.declared.Tally.{Tally}
 use Rattle.tally.specs.Tally.{zero}
-use Rattle.report.specs.declared.Form.{Form}
+use Rattle.forms.specs.declared.Form.{Form}
 use Rattle.report.specs.Running.{Kept, keep}
 use Rattle.report.specs.Counts.{keptOf, keptAfter}
 use Rattle.report.specs.Claims.{NoLine, NoLines, Claims}

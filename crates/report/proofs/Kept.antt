@@ -14,12 +14,12 @@ use Rattle.book.specs.Rows.{unitRowAt, aRowAt, bRowAt, answerAt, numberIn}
 use Rattle.book.specs.Run.{accepted}
 use Rattle.book.specs.State.{stateOf, secondOf, stepIn}
 use Rattle.book.proofs.Past.{cleared, over-past}
-use Rattle.report.specs.declared.Form.{Form}
+use Rattle.forms.specs.declared.Form.{Form}
 use Rattle.report.specs.declared.run.Plan.{Plan}
 use Rattle.report.specs.declared.run.Verdict.the-variants as verdict
 use Rattle.report.specs.Running.{Kept, keep, Ran, answered, refusedAt, secondIn}
 use Rattle.report.specs.Counts.{keptOf, keptAfter}
-use Rattle.report.specs.Text.{linesOf}
+use Rattle.forms.specs.Text.{linesOf}
 use Rattle.report.proofs.Past.{tally-more}
 
 -- the seconds accepted so far, as the unit counts them

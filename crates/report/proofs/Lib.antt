@@ -1,5 +1,4 @@
 pub mod Counting
-pub mod Adding
 pub mod Seconds
 pub mod Blocks
 pub mod Past

@@ -21,7 +21,7 @@ use Rattle.tally.proofs.Counts.{longer}
 use Rattle.report.specs.declared.run.Plan.{Plan}
 use Rattle.report.specs.declared.run.Run.{Run}
 use Rattle.report.specs.declared.run.Verdict.the-variants.{Accepted, Refused}
-use Rattle.report.specs.Text.{linesOf, secondRoom, blockRoom}
+use Rattle.forms.specs.Text.{linesOf, secondRoom, blockRoom}
 use Rattle.report.specs.Running.{Kept, keep, refusedAt, answered, secondIn, after, followed, secondsIn, runOf, keptIn, KeptReady, Adds}
 use Rattle.report.proofs.Counting.{Counts, counts}
 

@@ -21,7 +21,7 @@ use Rattle.book.specs.Run.{accepted}
 use Rattle.book.specs.State.{fresh}
 use Rattle.tally.specs.Tally.{zero}
 use Rattle.line.specs.Short.{shortText}
-use Rattle.report.specs.declared.Form.{Form}
+use Rattle.forms.specs.declared.Form.{Form}
 use Rattle.report.specs.Running.{keep}
 use Rattle.report.specs.Counts.{keptOf, keptAfter}
 

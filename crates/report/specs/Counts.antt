@@ -11,7 +11,7 @@ use Rattle.book.specs.Seconds.{BookSecond, History, Closed}
 use Rattle.book.specs.Rows.{unitRowAt, aRowAt, bRowAt}
 use Rattle.book.specs.State.{stateOf}
 use Rattle.tally.specs.declared.Tally.{Tally}
-use Rattle.report.specs.declared.Form.{Form}
+use Rattle.forms.specs.declared.Form.{Form}
 use Rattle.report.specs.Running.{Kept, keep, secondIn}
 
 abbrev pub addedOver : (History → BookSecond → ℕ) → History → ℕ

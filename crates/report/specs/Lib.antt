@@ -1,4 +1,3 @@
-pub mod Text
 pub mod Running
 pub mod Counts
 pub mod Claims

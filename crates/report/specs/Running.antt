@@ -11,12 +11,12 @@ use Rattle.tally.specs.declared.Tally.{Tally}
 use Rattle.tally.specs.Tally.{tallyWith, TallyWithin}
 use Rattle.block.specs.Block.{blockNumber, countOf, secondsFrom}
 use Rattle.codec.specs.Put.{Put}
-use Rattle.report.specs.declared.Form.{Form}
+use Rattle.forms.specs.declared.Form.{Form}
 use Rattle.report.specs.declared.run.Plan.{Plan}
 use Rattle.report.specs.declared.run.Run.{Run}
 use Rattle.report.specs.declared.run.Verdict.{Verdict}
 use Rattle.report.specs.declared.run.Verdict.the-variants.{Accepted, Refused}
-use Rattle.report.specs.Text.{linesOf}
+use Rattle.forms.specs.Text.{linesOf}
 
 -- ---- the seconds of a block
 

@@ -1,16 +1,16 @@
 // A block run second by second: the text that it adds, the book after it, and its refusal.
-use crate::Form;
-use crate::lines::add_second;
 use block::Block;
 use book::Book;
 use book::BookAnswer;
+use forms::Form;
+use forms::add_second;
 use tally::Tally;
 ghost use Prim.Native.Nat.{_+_, _≤_};
 ghost use mathlib.Core.Path.{_≡_};
 ghost use lib.ListN.{length};
 ghost use Rattle.block.specs.Places.{blockSize, perBlock};
 ghost use Rattle.block.specs.Block.{secondsFrom};
-ghost use Rattle.report.specs.Text.{secondRoom, blockRoom};
+ghost use Rattle.forms.specs.Text.{secondRoom, blockRoom};
 ghost use Rattle.report.specs.Running.{keep, runOf, secondIn, secondsIn, blockIn, KeptReady, Adds};
 
 // How a book is run: the form of its lines, and what its header gives.

@@ -1,5 +1,5 @@
 // Prints the book on standard input, a line a second, then the sum line or the refusal (01, "Blocks and text").
-use report::Form;
+use forms::Form;
 
 fn main() {
     stdio::print_book(Form::Line);

@@ -1,5 +1,5 @@
 // Prints the book on standard input with every figure of every row, then the sum line or the refusal.
-use report::Form;
+use forms::Form;
 
 fn main() {
     stdio::print_book(Form::Figures);

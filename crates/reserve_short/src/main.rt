@@ -1,6 +1,6 @@
 // Prints which kind was short in the book on standard input: each second in which a kind stood outside its band, how often each did, then the
 // sum line or the refusal.
-use report::Form;
+use forms::Form;
 
 fn main() {
     stdio::print_book(Form::Short);

@@ -20,7 +20,7 @@ use Rattle.report.specs.declared.run.Run.{Run}
 use Rattle.report.specs.declared.run.Verdict.{Verdict}
 use Rattle.report.specs.declared.run.Verdict.the-variants.{Accepted, Refused}
 use Rattle.report.specs.Running.{Kept, Ran, Adds, blockIn}
-use Rattle.report.specs.Text.{blockRoom}
+use Rattle.forms.specs.Text.{blockRoom}
 use Rattle.standing.specs.declared.Standing.{Standing}
 use Rattle.standing.specs.declared.Advance.{Advance}
 use Rattle.standing.specs.Standing.{Went, unmoved, keptBy, withVerdict, afterHeader, headerBy, laterBy, beyondBy, dueBy, isDue, standingIn, bytesDue, StandingReady, Advances}

@@ -13,7 +13,7 @@ use Rattle.block.specs.Header.{headerNumber, ownerOf, secondsOf}
 use Rattle.block.specs.Book.{lastBlock}
 use Rattle.codec.specs.Put.{Put}
 use Rattle.line.specs.Line.{sumText, refusalText}
-use Rattle.report.specs.declared.Form.{Form}
+use Rattle.forms.specs.declared.Form.{Form}
 use Rattle.report.specs.declared.run.Verdict.{Verdict}
 use Rattle.report.specs.declared.run.Verdict.the-variants.{Accepted, Refused}
 use Rattle.report.specs.Running.{Kept, keep, Ran, blockIn, KeptReady}

@@ -2,9 +2,9 @@
 // text"). A `Standing` says where the book stands between two blocks. Bytes that come in pieces are crate `pieces`.
 use block::Header;
 use book::Book;
-use report::Form;
+use forms::Form;
+use forms::TextLine;
 use report::Plan;
-use report::TextLine;
 use report::Verdict;
 use tally::Tally;
 ghost use Prim.Native.Nat.{_+_, _≤_};
@@ -12,7 +12,7 @@ ghost use mathlib.Core.Path.{_≡_};
 ghost use mathlib.Core.Bool.{true};
 ghost use lib.ListN.{length};
 ghost use Rattle.record.specs.Record.{mostSeconds};
-ghost use Rattle.report.specs.Text.{blockRoom, textOf};
+ghost use Rattle.forms.specs.Text.{blockRoom, textOf};
 ghost use Rattle.report.specs.Running.{blockIn};
 ghost use Rattle.standing.specs.Standing.{start, keptBy, isDue, bytesDue, withVerdict, headerBy, laterBy, beyondBy, standingIn, lastLineIn, endOf, StandingReady, Advances};
 ghost use Rattle.block.specs.Header.{headerNumber};

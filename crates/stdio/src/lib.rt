@@ -1,10 +1,10 @@
 // The loop that reads a book from standard input, has it taken, and sends the text: the one part of a program that no contract can hold to what
 // is read and written (docs/READING.md). That it goes on from where the book stood is in its contracts (specs/Turns.antt).
+use forms::Form;
 use libc::STDERR_FILENO;
 use libc::STDIN_FILENO;
 use libc::STDOUT_FILENO;
 use pieces::Reading;
-use report::Form;
 ghost use Prim.Native.Nat.{_≤_};
 ghost use lib.ListN.{length};
 ghost use Rattle.pieces.specs.Pieces.{ReadingReady, pieceSize, pieceRoom};

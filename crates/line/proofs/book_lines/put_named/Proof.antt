@@ -1,5 +1,5 @@
 -- `line::book_lines::put_named` meets its contract: a chain of its parts. Assumes nothing.
-use Rattle.line.specs.Text.{named}
+use Rattle.digits.specs.Text.{named}
 use Rattle.codec.proofs.Puts.{both}
 use borrow.Author.Needs.{needs}
 use Rattle.line.proofs.book_lines.put_named.Statement.{statement}
