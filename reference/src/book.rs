@@ -2,6 +2,7 @@
 
 use crate::plant::{Plant, Row};
 use crate::record;
+use crate::sheet::Sheet;
 
 /// 36 bytes each of U, A and B.
 pub const LENGTH: usize = 3 * record::LENGTH;
@@ -53,12 +54,23 @@ fn actuals(row: &Row) -> i64 {
 }
 
 impl Book {
+    /// A fresh book with its sheet, or 30 "when a figure is outside its range, before the book opens".
+    pub fn open(sheet: Sheet) -> Result<Book, u8> {
+        let sheet = sheet.checked()?;
+        Ok(Book {
+            unit: Plant::open(sheet),
+            a: Plant::open(sheet),
+            b: Plant::open(sheet),
+            ..Book::default()
+        })
+    }
+
     /// The book's length: the seconds accepted so far, without those of closed books.
     pub fn seconds(&self) -> usize {
         self.unit.seconds()
     }
 
-    /// The next book, opened with the states that this one closes with, its count and its sums 0; or 29 "when the closing book's
+    /// The next book, opened with the states that this one closes with and their sheet, its count and its sums 0; or 29 "when the closing book's
     /// length isn't a multiple of 900". This one stays as it was.
     pub fn hand_over(&self) -> Result<Book, u8> {
         if self.seconds() % 900 != 0 {

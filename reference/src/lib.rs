@@ -1,7 +1,7 @@
 //! The other program: written from documents 01, 02, 002 and 004 alone, with the standard library alone.
 //!
-//! It looks at whole windows each second and keeps whole pasts. Powers are whole kW in `i64`; limits are
-//! grains of 1/540 kW in `i64`, so that every division named in document 01 is exact or done where 01 does it.
+//! It looks at whole windows each second and keeps whole pasts. Powers are whole kW in `i64`; limits are exact
+//! fractions of a kW, so that every division named in document 01 is exact or done where 01 does it, under every sheet.
 
 pub mod afrr;
 pub mod block;
@@ -18,4 +18,6 @@ pub mod power;
 pub mod program;
 pub mod record;
 pub mod sharing;
+pub mod sheet;
 pub mod short;
+pub mod under_sheet;

@@ -1,6 +1,7 @@
 //! mFRR: signal, calls, leftovers and band (004, lines 326 to 353).
 
-use crate::power::{one_point_two, Limits, GRAINS};
+use crate::power::{Limits, Ratio};
+use crate::sheet::Sheet;
 
 /// "At most 8 leftovers."
 pub const PLACES: usize = 8;
@@ -55,14 +56,15 @@ impl Call {
         }
     }
 
-    /// "The largest and smallest of: ramping up b, e, 1.2 × e; delivering e, 1.2 × e; ramping down 0, e, 1.2 × e."
-    pub fn limits(&self, now: i64) -> Option<Limits> {
-        let e = self.target * GRAINS;
-        let more = one_point_two(self.target);
+    /// "The largest and smallest of: ramping up b, e, 1.2 × e; delivering e, 1.2 × e; ramping down 0, e, 1.2 × e", the sheet's
+    /// factor in the place of 1.2.
+    pub fn limits(&self, now: i64, sheet: &Sheet) -> Option<Limits> {
+        let e = Ratio::from(self.target);
+        let more = sheet.with_excess(self.target);
         let third = match self.phase(now) {
-            Phase::RampingUp => self.start * GRAINS,
+            Phase::RampingUp => Ratio::from(self.start),
             Phase::Delivering => e,
-            Phase::RampingDown => 0,
+            Phase::RampingDown => Ratio::from(0),
             Phase::Resting => return None,
         };
         Some(Limits {
@@ -112,10 +114,10 @@ impl Signal {
     }
 
     /// The signal with a new call at `now`, or 10 for a ninth leftover.
-    pub fn called(&self, now: i64, target: i64, end: i64) -> Result<Signal, u8> {
+    pub fn called(&self, now: i64, target: i64, end: i64, sheet: &Sheet) -> Result<Signal, u8> {
         let mut leftovers: Vec<Leftover> = self.counting(now).copied().collect();
         if let Some(old) = self.call {
-            if let (Some(limits), Some(last)) = (old.limits(now), old.phase_ends(now)) {
+            if let (Some(limits), Some(last)) = (old.limits(now, sheet), old.phase_ends(now)) {
                 if leftovers.len() == PLACES {
                     return Err(10);
                 }
@@ -152,10 +154,10 @@ impl Signal {
     }
 
     /// "The band spans s, the running call and all leftovers."
-    pub fn limits(&self, now: i64) -> Limits {
-        let s = self.setpoint(now) * GRAINS;
+    pub fn limits(&self, now: i64, sheet: &Sheet) -> Limits {
+        let s = Ratio::from(self.setpoint(now));
         let mut band = Limits { low: s, high: s };
-        let running = self.call.and_then(|call| call.limits(now));
+        let running = self.call.and_then(|call| call.limits(now, sheet));
         for limits in running.into_iter().chain(self.counting(now).map(|leftover| leftover.limits)) {
             band.low = band.low.min(limits.low);
             band.high = band.high.max(limits.high);

@@ -3,6 +3,7 @@
 use crate::power::{Band, Limits};
 use crate::record::{self, Record};
 use crate::sharing::{parts, Part};
+use crate::sheet::Sheet;
 use crate::{afrr, fcr, mfrr};
 
 /// The most seconds that a plant takes.
@@ -34,10 +35,11 @@ pub struct Row {
 pub const KINDS: u8 = 7;
 pub const FAULT: u8 = 8;
 
-/// A plant's past: its last status, the setpoints of all seconds, those of closed books first, aFRR's carried limits, and
+/// A plant's sheet and its past: its last status, the setpoints of all seconds, those of closed books first, aFRR's carried limits, and
 /// mFRR's signal, whose times are in the seconds of the plant's own book.
 #[derive(Clone, Debug, Default, PartialEq)]
 pub struct Plant {
+    pub sheet: Sheet,
     /// How many seconds of the past are those of closed books.
     pub closed: usize,
     pub status: u8,
@@ -62,15 +64,25 @@ fn outside(value: i64, lowest: i64, highest: i64) -> bool {
 }
 
 impl Plant {
+    /// A fresh plant under a sheet.
+    pub fn open(sheet: Sheet) -> Plant {
+        Plant {
+            sheet,
+            ..Plant::default()
+        }
+    }
+
     /// Seconds accepted so far in the plant's own book; t is this number.
     pub fn seconds(&self) -> usize {
         self.fcr.len() - self.closed
     }
 
     /// The state that opens the next book: "setpoints, limits, status, calls and leftovers, with times moved back by the
-    /// closed book's length". Its past are the closed books' seconds; its own count starts at 0.
+    /// closed book's length". Its past are the closed books' seconds; its own count starts at 0. "A handed-over book keeps its
+    /// sheet."
     pub fn handed_over(&self) -> Plant {
         Plant {
+            sheet: self.sheet,
             closed: self.fcr.len(),
             status: self.status,
             fcr: self.fcr.clone(),
@@ -134,7 +146,7 @@ impl Plant {
             if end % 900 != 0 || outside(end, now + 900, now + 3_600) {
                 return Err(9);
             }
-            called = Some(self.mfrr.called(now, target, end)?);
+            called = Some(self.mfrr.called(now, target, end, &self.sheet)?);
         }
         let setpoints = [
             fcr::setpoint(record.deviation as i64, record.fcr_held as i64),
@@ -155,7 +167,7 @@ impl Plant {
         })
     }
 
-    /// Takes an accepted second into the past and gives its limits in grains.
+    /// Takes an accepted second into the past and gives its limits.
     pub fn take(&mut self, accepted: Accepted) -> [Limits; 3] {
         let now = self.seconds() as i64;
         let record = accepted.record;
@@ -170,11 +182,12 @@ impl Plant {
             self.afrr_limits,
             record.afrr_held_up as i64,
             record.afrr_held_down as i64,
+            &self.sheet,
         );
         [
-            fcr::limits(&self.fcr, record.fcr_held as i64),
+            fcr::limits(&self.fcr, record.fcr_held as i64, &self.sheet),
             self.afrr_limits,
-            self.mfrr.limits(now),
+            self.mfrr.limits(now, &self.sheet),
         ]
     }
 

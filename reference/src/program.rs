@@ -81,9 +81,13 @@ pub fn last_line(ended: Result<(), Stop>, book: &Book) -> io::Result<String> {
     }
 }
 
-/// Reads a book and prints it in a form; the last line is the sum line or the refusal.
-pub fn run(input: &mut impl Read, output: &mut impl Write, mut form: impl Form) -> io::Result<()> {
-    let mut book = Book::default();
+/// Reads a book and prints it in a form; the last line is the sum line or the refusal. It opens with the default sheet.
+pub fn run(input: &mut impl Read, output: &mut impl Write, form: impl Form) -> io::Result<()> {
+    run_from(Book::default(), input, output, form)
+}
+
+/// The same from an open book on.
+pub fn run_from(mut book: Book, input: &mut impl Read, output: &mut impl Write, mut form: impl Form) -> io::Result<()> {
     let ended = for_each_second(input, |owner, bytes| {
         let second = book.seconds();
         let rows = book.second(owner, bytes)?;

@@ -7,7 +7,7 @@ use full_case::full_case;
 use reference::book::Book;
 use reference::maker::{second_bytes, Second};
 use reference::plant::{Plant, Row};
-use reference::power::{Limits, GRAINS};
+use reference::power::{Limits, Ratio};
 use reference::record::Record;
 use reference::sharing::{parts, Part};
 
@@ -144,16 +144,16 @@ fn rounding_the_carried_afrr_limit_each_second() {
         plant.afrr_limits.published().low
     };
     let inward = |limits: Limits| Limits {
-        low: limits.published().low * GRAINS,
-        high: limits.published().high * GRAINS,
+        low: limits.low.up().into(),
+        high: limits.high.down().into(),
     };
     let down = |limits: Limits| Limits {
-        low: limits.low.div_euclid(GRAINS) * GRAINS,
-        high: limits.high.div_euclid(GRAINS) * GRAINS,
+        low: limits.low.down().into(),
+        high: limits.high.down().into(),
     };
     let nearest = |limits: Limits| Limits {
-        low: (limits.low + GRAINS / 2).div_euclid(GRAINS) * GRAINS,
-        high: (limits.high + GRAINS / 2).div_euclid(GRAINS) * GRAINS,
+        low: (limits.low + Ratio::new(1, 2)).down().into(),
+        high: (limits.high + Ratio::new(1, 2)).down().into(),
     };
     assert_eq!(low_at_285(|limits| limits), 9_482);
     assert_eq!(low_at_285(inward), 9_500);

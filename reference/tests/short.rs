@@ -1,10 +1,12 @@
 //! What `reference_short` prints: kinds outside their bands, their counts, and the last line of `reference_book`.
 
+use reference::book::Book;
 use reference::line::second_line;
 use reference::maker::example::{short_example, OWNER, SHORT_FROM, SHORT_TO};
 use reference::maker::{book_bytes, Second};
-use reference::program::output_of;
+use reference::program::{output_of, run_from};
 use reference::record::Record;
+use reference::sheet::Sheet;
 use reference::short::Short;
 use std::path::Path;
 
@@ -147,8 +149,22 @@ fn the_shipped_book() {
         assert!(line.starts_with(&format!("{} U aFRR below ", second)), "{}", line);
     }
     let counts = &lines[seconds..seconds + 9];
-    assert_eq!(counts[1], "U aFRR below 60 50737 above 0 0");
+    assert_eq!(counts[1], "U aFRR below 60 50059 above 0 0");
     assert_eq!(counts.iter().filter(|line| line.ends_with(" below 0 0 above 0 0")).count(), 8);
     assert_eq!(lines.last(), output_of(&book, second_line).lines().last().as_ref());
     assert!(lines.last().is_some_and(|line| line.starts_with("sum A ")));
+}
+
+/// Under the sheet with 5,000 kW the bands close faster behind the setpoint, and the same minute is further below them, as it
+/// was in document 01.
+#[test]
+fn the_shipped_book_under_5_000_kw() {
+    let book = book_bytes(OWNER, &short_example());
+    let open = Book::open(Sheet { least_range: 5_000, ..Sheet::default() }).expect("a sound sheet");
+    let mut output = Vec::new();
+    run_from(open, &mut &book[..], &mut output, Short::default()).expect("memory does not fail");
+    let text = String::from_utf8(output).expect("lines are text");
+    let counts: Vec<&str> = text.lines().rev().skip(1).take(9).collect();
+    assert_eq!(counts[7], "U aFRR below 60 50737 above 0 0");
+    assert_eq!(counts.iter().filter(|line| line.ends_with(" below 0 0 above 0 0")).count(), 8);
 }

@@ -9,6 +9,7 @@ use reference::plant::{Plant, Row};
 use reference::program::output_of;
 use reference::record::Record;
 use reference::sharing::{parts, Part};
+use reference::sheet::Sheet;
 use reference::{fcr, mfrr, power};
 
 /// The row of a plant's next second, on its own.
@@ -76,20 +77,23 @@ fn fcr_upper_tolerance_after_one_fall() {
     }
 }
 
-/// "aFRR held up 10,000, setpoint 10,000 from second 0: lower limit 0 at 29, 38 at 30, 9,482 at 285, 9,500 at 286."
+/// "aFRR held up 10,000, setpoint 10,000 from second 0: lower limit 0 at 29, 38 at 30, 9,482 at 285, 9,500 at 286": values of the
+/// sheet with 5,000 kW. Those of the default sheet are the same, since 10,000 kW are in the window wherever the limit moves.
 #[test]
 fn afrr_lower_limit_after_a_rise() {
-    let mut plant = Plant::default();
-    for now in 0..=400 {
-        let record = Record { afrr_held_up: 10_000, afrr_setpoint: 10_000, status: 2, ..Record::default() };
-        let afrr = second(&mut plant, record).kinds[1];
-        assert_eq!(afrr.band.high, 10_500);
-        match now {
-            0..=29 => assert_eq!(afrr.band.low, 0, "second {}", now),
-            30 => assert_eq!(afrr.band.low, 38),
-            285 => assert_eq!(afrr.band.low, 9_482),
-            286.. => assert_eq!(afrr.band.low, 9_500, "second {}", now),
-            _ => {}
+    for least_range in [5_000, 1_000] {
+        let mut plant = Plant::open(Sheet { least_range, ..Sheet::default() });
+        for now in 0..=400 {
+            let record = Record { afrr_held_up: 10_000, afrr_setpoint: 10_000, status: 2, ..Record::default() };
+            let afrr = second(&mut plant, record).kinds[1];
+            assert_eq!(afrr.band.high, 10_500);
+            match now {
+                0..=29 => assert_eq!(afrr.band.low, 0, "second {}", now),
+                30 => assert_eq!(afrr.band.low, 38),
+                285 => assert_eq!(afrr.band.low, 9_482),
+                286.. => assert_eq!(afrr.band.low, 9_500, "second {}", now),
+                _ => {}
+            }
         }
     }
 }
@@ -142,7 +146,8 @@ fn no_tolerance() {
 
 #[test]
 fn rounding_inward() {
-    let band = |low, high| power::Limits { low, high }.published();
+    let parts = |number| power::Ratio::new(number, 540);
+    let band = |low, high| power::Limits { low: parts(low), high: parts(high) }.published();
     assert_eq!(band(-541, 541), power::Band { low: -1, high: 1 });
     assert_eq!(band(-540, 540), power::Band { low: -1, high: 1 });
     assert_eq!(band(-539, 539), power::Band { low: 0, high: 0 });
@@ -172,7 +177,7 @@ fn ramps_and_phases() {
 /// A leftover's place is free one second after its last one.
 #[test]
 fn eight_places() {
-    let called = |signal: mfrr::Signal, now: i64| signal.called(now, 100 + now, 1_800);
+    let called = |signal: mfrr::Signal, now: i64| signal.called(now, 100 + now, 1_800, &Sheet::default());
     let mut signal = mfrr::Signal::default();
     for now in 0..=8 {
         signal = called(signal, now).expect("a free place");

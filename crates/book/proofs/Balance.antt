@@ -4,6 +4,8 @@ use mathlib.Core.Bool.{Bool, true, false, not}
 use native.Mathlib.Omega.{arith}
 use lib.IntN.{ℤ, pos, _+ℤ_, _-ℤ_, +ℤ-idl, +ℤ-idr}
 use Rattle.numbers.proofs.Parts.{shows, add-nat, sub-nat}
+use Rattle.sheet.specs.declared.Sheet.{Sheet}
+use Rattle.sheet.specs.Sheet.{InRange}
 use Rattle.record.specs.declared.KindBits.{KindBits}
 use Rattle.record.specs.Record.{recordOf, bitsOf}
 use Rattle.row.specs.declared.KindRow.{KindRow}
@@ -120,15 +122,15 @@ three-plants u a b x y z v t p q r s =
     ∙ (λ i. (ap (λ (n : ℤ). n +ℤ u .«open» .0) p ∙ q ∙ unit-plain (x .measured .0) (x .«working_point» .0)) i +ℤ (difference y +ℤ difference z))
 
 pub second-balance :
-    (c : Closed) (h : History) (s : BookSecond) →
+    (sh : Sheet) → InRange sh → (c : Closed) (h : History) (s : BookSecond) →
     Accepted c h →
     Cleared c h s →
-    actualsOf (aRowAt c h s) +ℤ actualsOf (bRowAt c h s) +ℤ openOf (unitRowAt c h s) (aRowAt c h s) (bRowAt c h s) ≡ dueOf (s .bytes)
+    actualsOf (aRowAt sh c h s) +ℤ actualsOf (bRowAt sh c h s) +ℤ openOf (unitRowAt sh c h s) (aRowAt sh c h s) (bRowAt sh c h s) ≡ dueOf (s .bytes)
 unfolding dueOf unitRowAt poolRowAt
-second-balance c h s a e =
-    let r = rows-hold c h s a e in
-    let v = valuesOf (soldByA (s .owner)) (unitRowAt c h s) in
-    let o = valuesOf (soldByB (s .owner)) (unitRowAt c h s) in
-    three-plants (unitRowAt c h s) (aRowAt c h s) (bRowAt c h s)
+second-balance sh i c h s a e =
+    let r = rows-hold sh i c h s a e in
+    let v = valuesOf (soldByA (s .owner)) (unitRowAt sh c h s) in
+    let o = valuesOf (soldByB (s .owner)) (unitRowAt sh c h s) in
+    three-plants (unitRowAt sh c h s) (aRowAt sh c h s) (bRowAt sh c h s)
     (recordOf (unitBytes (s .bytes))) (recordOf (aBytes (s .bytes))) (recordOf (bBytes (s .bytes)))
-    v o (both (bitsOf (s .owner)) (unitRowAt c h s)) (r .unit .balance) (r .a .balance) (r .b .balance)
+    v o (both (bitsOf (s .owner)) (unitRowAt sh c h s)) (r .unit .balance) (r .a .balance) (r .b .balance)

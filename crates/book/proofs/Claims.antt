@@ -9,6 +9,8 @@ use borrow.Author.Tests.{eq-eqb, ne-eqb, eqb-true}
 use lib.Dec.{eqb}
 use lib.IntN.{ℤ, _+ℤ_, +ℤ-assoc, +ℤ-comm}
 use lib.ListN.{length, length-map}
+use Rattle.sheet.specs.declared.Sheet.{Sheet}
+use Rattle.sheet.specs.Sheet.{InRange}
 use Rattle.record.specs.Record.{mostSeconds}
 use Rattle.mfrr.specs.Signal.{quarterHour}
 use Rattle.plant.specs.State as plant-state
@@ -33,10 +35,10 @@ use Rattle.book.proofs.Balance.{second-balance}
 
 -- ---- the book after a list
 
-lasts : (ss : List BookSecond) (c : Closed) (h : History) → Accepted c h → bookAfter (stateOf c h) ss ≡ stateOf c (accepted c h ss)
+lasts : (sh : Sheet) → InRange sh → (ss : List BookSecond) (c : Closed) (h : History) → Accepted c h → bookAfter (stateOf sh c h) ss ≡ stateOf sh c (accepted c h ss)
 unfolding bookAfter accepted
-lasts [] c h a = refl
-lasts (s ∷ ss) c h a = let o = over-past c h a s in rw (o .book) (lasts ss c (grown c h s) (o .stays))
+lasts sh i [] c h a = refl
+lasts sh i (s ∷ ss) c h a = let o = over-past sh i c h a s in rw (o .book) (lasts sh i ss c (grown c h s) (o .stays))
 
 all-accepted : (ss : List BookSecond) (c : Closed) (h : History) → Accepted c h → Accepted c (accepted c h ss)
 unfolding accepted
@@ -51,20 +53,20 @@ six a b c A B C = simp (+ℤ-assoc, left)
     left : (x y z : ℤ) → x +ℤ (y +ℤ z) ≡ y +ℤ (x +ℤ z)
     left x y z = sym (+ℤ-assoc x y z) ∙ ap (λ (n : ℤ). n +ℤ z) (+ℤ-comm x y) ∙ +ℤ-assoc y x z
 
-balance : (c : Closed) (h : History) → Accepted c h → sumA c h +ℤ sumB c h +ℤ sumOpen c h ≡ sumDue h
+balance : (sh : Sheet) → InRange sh → (c : Closed) (h : History) → Accepted c h → sumA sh c h +ℤ sumB sh c h +ℤ sumOpen sh c h ≡ sumDue h
 unfolding Accepted
-balance c [] a = refl
-balance c (s ∷ h) a =
-    six _ _ _ (sumA c h) (sumB c h) (sumOpen c h) ∙ (λ i. balance c h (a .1) i +ℤ second-balance c h s (a .1) (cleared c h s (a .0)) i)
+balance sh r c [] a = refl
+balance sh r c (s ∷ h) a =
+    six _ _ _ (sumA sh c h) (sumB sh c h) (sumOpen sh c h) ∙ (λ i. balance sh r c h (a .1) i +ℤ second-balance sh r c h s (a .1) (cleared c h s (a .0)) i)
 
 -- ---- the sums fit
 
-sums-ready : (c : Closed) (h : History) → Accepted c h → SumsReady (length h) (sumsOf c h)
+sums-ready : (sh : Sheet) → InRange sh → (c : Closed) (h : History) → Accepted c h → SumsReady (length h) (sumsOf sh c h)
 unfolding Accepted sumsOf sumsWith
-sums-ready c [] a = sums-none 0
-sums-ready c (s ∷ h) a =
-    subst (λ (n : ℕ). SumsReady n (sumsOf c (s ∷ h))) (add-one (length h))
-    (sums-more (length h) (sumsOf c h) (unitRowAt c h s) (aRowAt c h s) (bRowAt c h s) _ (sums-ready c h (a .1)) (summed c h s (a .1) (cleared c h s (a .0))))
+sums-ready sh i c [] a = sums-none 0
+sums-ready sh i c (s ∷ h) a =
+    subst (λ (n : ℕ). SumsReady n (sumsOf sh c (s ∷ h))) (add-one (length h))
+    (sums-more (length h) (sumsOf sh c h) (unitRowAt sh c h s) (aRowAt sh c h s) (bRowAt sh c h s) _ (sums-ready sh i c h (a .1)) (summed sh i c h s (a .1) (cleared c h s (a .0))))
 
 counted : (c : Closed) (h : History) → Accepted c h → length h ≤ mostSeconds
 counted c h a = subst (λ (n : ℕ). n ≤ mostSeconds) (length-map h _) (plant.counted (closedOf unitBytes c) (pastOf unitBytes h) (unit-accepted c h a))
@@ -79,59 +81,59 @@ grown-same c h s n = go (numberAt c h s) n
     go zero q = absurd (q refl)
     go (suc m) q = refl
 
-at-second : (c : Closed) (h : History) → Accepted c h → (s : BookSecond) → AtSecond (stateOf c h) c h s
+at-second : (sh : Sheet) → InRange sh → (c : Closed) (h : History) → Accepted c h → (s : BookSecond) → AtSecond sh (stateOf sh c h) c h s
 unfolding answerAt
-at-second c h a s =
-    let o = over-past c h a s in
+at-second sh i c h a s =
+    let o = over-past sh i c h a s in
     record {
       past = refl;
       over = o;
       accepted-rows = λ e. let d = cleared c h s e in o .answer ∙ rw (d .form, d .unit, d .a, d .b);
-      rows-hold = λ e. rows-hold c h s a (cleared c h s e);
-      refused-same = λ n. o .book ∙ ap (stateOf c) (grown-same c h s n);
+      rows-hold = λ e. rows-hold sh i c h s a (cleared c h s e);
+      refused-same = λ n. o .book ∙ ap (stateOf sh c) (grown-same c h s n);
     }
 
-each : (ss : List BookSecond) (c : Closed) (h : History) → Accepted c h → EachSecond (stateOf c h) c h ss
-each [] c h a = tt
-each (s ∷ ss) c h a =
-    let o = over-past c h a s in (
-      at-second c h a s,
-      subst (λ (k : Book). EachSecond k c (grown c h s) ss) (sym (o .book)) (each ss c (grown c h s) (o .stays)),
+each : (sh : Sheet) → InRange sh → (ss : List BookSecond) (c : Closed) (h : History) → Accepted c h → EachSecond sh (stateOf sh c h) c h ss
+each sh i [] c h a = tt
+each sh i (s ∷ ss) c h a =
+    let o = over-past sh i c h a s in (
+      at-second sh i c h a s,
+      subst (λ (k : Book). EachSecond sh k c (grown c h s) ss) (sym (o .book)) (each sh i ss c (grown c h s) (o .stays)),
     )
 
 -- ---- for every list of book seconds from a fresh book, refused ones included
 
-pub fresh-is : stateOf [] [] ≡ fresh
+pub fresh-is : (sh : Sheet) → stateOf sh [] [] ≡ fresh sh
 unfolding fresh stateOf sumsOf
-fresh-is = refl
+fresh-is sh = refl
 
 pub none-accepted : Accepted [] []
 unfolding Accepted AllClosed
 none-accepted = tt
 
-balanced : (c : Closed) (h : History) → Accepted c h → Balanced c h (stateOf c h)
+balanced : (sh : Sheet) → InRange sh → (c : Closed) (h : History) → Accepted c h → Balanced sh c h (stateOf sh c h)
 unfolding stateOf sumsOf
-balanced c h a =
+balanced sh i c h a =
     record {
-      balance = balance c h a;
+      balance = balance sh i c h a;
       kept-a = refl;
       kept-b = refl;
       kept-open = refl;
       kept-due = refl;
-      sums-fit = sums-fit (length h) (sumsOf c h) (counted c h a) (sums-ready c h a);
+      sums-fit = sums-fit (length h) (sumsOf sh c h) (counted c h a) (sums-ready sh i c h a);
       last = refl;
       accepted-all = a;
     }
 
-pub list-holds : (c : Closed) (h : History) → Accepted c h → (ss : List BookSecond) → ListHolds (stateOf c h) c h ss
-list-holds c h a ss =
+pub list-holds : (sh : Sheet) → InRange sh → (c : Closed) (h : History) → Accepted c h → (ss : List BookSecond) → ListHolds sh (stateOf sh c h) c h ss
+list-holds sh i c h a ss =
     record {
-      balanced = rw (lasts ss c h a) (balanced c (accepted c h ss) (all-accepted ss c h a));
-      each = each ss c h a;
+      balanced = rw (lasts sh i ss c h a) (balanced sh i c (accepted c h ss) (all-accepted ss c h a));
+      each = each sh i ss c h a;
     }
 
-pub claims : (ss : List BookSecond) → Claims ss
-claims ss = subst (λ (k : Book). ListHolds k [] [] ss) fresh-is (list-holds [] [] none-accepted ss)
+pub claims : (sh : Sheet) → InRange sh → (ss : List BookSecond) → Claims sh ss
+claims sh i ss = subst (λ (k : Book). ListHolds sh k [] [] ss) (fresh-is sh) (list-holds sh i [] [] none-accepted ss)
 
 -- ---- and for every chain of lists and handovers
 
@@ -144,13 +146,13 @@ whole t e = go (eqb (t % quarterHour) 0) refl e
     go false q e = absurd (omega arith)
 
 -- what goes on after a handover was left by accepted seconds too
-module _ (c : Closed) (h : History) (a : Accepted c h) where
-  next-book : handOverIn (stateOf c h) .book ≡ stateOf (closedHanded c h) (pastHanded h)
+module _ (sh : Sheet) (c : Closed) (h : History) (a : Accepted c h) where
+  next-book : handOverIn (stateOf sh c h) .book ≡ stateOf sh (closedHanded c h) (pastHanded h)
   unfolding closedHanded pastHanded
-  next-book = rw (number-is c h) (go (handOverNumber (length h)))
+  next-book = rw (number-is sh c h) (go (handOverNumber (length h)))
     where
-      go : (n : ℕ) → handOverBy n (stateOf c h) .book ≡ stateOf (closedBy n c h) (pastBy n h)
-      go zero = handed c h
+      go : (n : ℕ) → handOverBy n (stateOf sh c h) .book ≡ stateOf sh (closedBy n c h) (pastBy n h)
+      go zero = handed sh c h
       go (suc n) = refl
 
   pub next-accepted : Accepted (closedHanded c h) (pastHanded h)
@@ -161,23 +163,24 @@ module _ (c : Closed) (h : History) (a : Accepted c h) where
       go zero e = (whole (length h) e, a)
       go (suc n) e = a
 
-chain-holds : (chain : List (List BookSecond)) (c : Closed) (h : History) → Accepted c h → ChainHolds (stateOf c h) c h chain
-chain-holds [] c h a = tt
-chain-holds (ss ∷ chain) c h a =
+chain-holds : (sh : Sheet) → InRange sh → (chain : List (List BookSecond)) (c : Closed) (h : History) → Accepted c h → ChainHolds sh (stateOf sh c h) c h chain
+chain-holds sh i [] c h a = tt
+chain-holds sh i (ss ∷ chain) c h a =
     let later = accepted c h ss in
     let all = all-accepted ss c h a in (
-      list-holds c h a ss,
-      rw (lasts ss c h a) (at-hand-over c later),
-      rw (lasts ss c h a, next-book c later all) (chain-holds chain (closedHanded c later) (pastHanded later) (next-accepted c later all)),
+      list-holds sh i c h a ss,
+      rw (lasts sh i ss c h a) (at-hand-over sh c later),
+      rw (lasts sh i ss c h a, next-book sh c later all) (chain-holds sh i chain (closedHanded c later) (pastHanded later) (next-accepted sh c later all)),
     )
 
-pub chains : (chain : List (List BookSecond)) → ChainHolds fresh [] [] chain
-chains chain = subst (λ (k : Book). ChainHolds k [] [] chain) fresh-is (chain-holds chain [] [] none-accepted)
+pub chains : (sh : Sheet) → InRange sh → (chain : List (List BookSecond)) → ChainHolds sh (fresh sh) [] [] chain
+chains sh i chain = subst (λ (k : Book). ChainHolds sh k [] [] chain) (fresh-is sh) (chain-holds sh i chain [] [] none-accepted)
 
-fresh-book : (h : History) → FreshBook h
+fresh-book : (sh : Sheet) (h : History) → FreshBook sh h
 unfolding numberAt unitRowAt poolRowAt stateOf Accepted
-fresh-book h =
+fresh-book sh h =
     record { number = λ s. refl; unit-row = λ s. refl; pool-row = λ p s. refl; state = refl; accepted = λ s. ((λ a. a), (λ a. a)) }
 
-pub book-claims : BookClaims
-book-claims = record { every-list = claims; every-chain = chains; fresh-book = fresh-book; every-cut = λ early late whole a. cut early whole late a }
+pub book-claims : (sh : Sheet) → InRange sh → BookClaims sh
+book-claims sh i =
+    record { every-list = claims sh i; every-chain = chains sh i; fresh-book = fresh-book sh; every-cut = λ early late whole a. cut sh i early whole late a }

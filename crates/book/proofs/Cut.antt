@@ -7,6 +7,8 @@ use borrow.Author.Tests.{eq-eqb}
 use lib.IntN.{ℤ, pos, _+ℤ_, _-ℤ_, +ℤ-assoc, +ℤ-idr}
 use lib.ListN.{length, take, drop, length-map, length-append}
 use lib.Seq.{take-at, drop-at, take-all}
+use Rattle.sheet.specs.declared.Sheet.{Sheet}
+use Rattle.sheet.specs.Sheet.{InRange}
 use Rattle.record.specs.declared.Record.{Record}
 use Rattle.record.specs.Record.{size, bookSize, recordOf, movedBack}
 use Rattle.row.specs.declared.Row.{Row}
@@ -88,7 +90,7 @@ record-back part m n s e =
     let l = whole (s .owner) (s .bytes) e in
     ap recordOf (m .back n (s .bytes) l) ∙ record-moved n (part (s .bytes)) (m .long (s .bytes) l)
 
-module _ (part : List ℕ → List ℕ) (m : Moves part) (early : History) where
+module _ (sh : Sheet) (in-range : InRange sh) (part : List ℕ → List ℕ) (m : Moves part) (early : History) where
   abbrev n : ℕ
   n = length early
 
@@ -111,10 +113,10 @@ module _ (part : List ℕ → List ℕ) (m : Moves part) (early : History) where
     abbrev x : Record
     x = recordOf (part (s .bytes))
 
-    is-cut : plant-cut.Cut closed (pastOf part late) x
+    is-cut : plant-cut.Cut sh closed (pastOf part late) x
     is-cut =
         let both = past-append part late early in
-        plant-claims.claims .cut closed (pastOf part late) (rw same-length whole-hours)
+        plant-claims.claims sh in-range .cut closed (pastOf part late) (rw same-length whole-hours)
         (subst (plant-refusals.Accepted []) both plant-acc) x
         (subst (λ (h : plant.History). plant-refusals.recordNumberAt [] h x ≡ 0) both (record-number [] _ (part (s .bytes)) number))
 
@@ -129,15 +131,15 @@ module _ (part : List ℕ → List ℕ) (m : Moves part) (early : History) where
         rw (eq-eqb _ _ long)
         ((λ i. plant-refusals.recordNumberAt (closed ∷ []) (past-back late acc i) (x-back i)) ∙ is-cut .number)
 
-    pub row-cut : (p w : ℤ) → plant-rows.rowAt (closedOf part (early ∷ [])) (pastOf part (cutOff early late)) (recordOf (part (earlier n s .bytes))) p w ≡ plant-rows.rowAt [] (pastOf part (late ++ early)) x p w
+    pub row-cut : (p w : ℤ) → plant-rows.rowAt sh (closedOf part (early ∷ [])) (pastOf part (cutOff early late)) (recordOf (part (earlier n s .bytes))) p w ≡ plant-rows.rowAt sh [] (pastOf part (late ++ early)) x p w
     row-cut p w =
-        (λ i. plant-rows.rowAt (closed ∷ []) (past-back late acc i) (x-back i) p w)
+        (λ i. plant-rows.rowAt sh (closed ∷ []) (past-back late acc i) (x-back i) p w)
         ∙ is-cut .row p w
-        ∙ (λ i. plant-rows.rowAt [] (sym (past-append part late early) i) x p w)
+        ∙ (λ i. plant-rows.rowAt sh [] (sym (past-append part late early) i) x p w)
 
 -- ---- a second of the two books
 
-module _ (early : History) (whole-hours : length early % quarterHour ≡ 0) (late : History) (acc : Accepted [] (late ++ early)) (s : BookSecond) (e : numberAt [] (late ++ early) s ≡ 0) where
+module _ (sh : Sheet) (in-range : InRange sh) (early : History) (whole-hours : length early % quarterHour ≡ 0) (late : History) (acc : Accepted [] (late ++ early)) (s : BookSecond) (e : numberAt [] (late ++ early) s ≡ 0) where
   abbrev one : History
   one = late ++ early
 
@@ -158,14 +160,14 @@ module _ (early : History) (whole-hours : length early % quarterHour ≡ 0) (lat
   second-number =
       rw (
         form-back,
-        number-cut unitBytes unit-moves early whole-hours late acc (unit-accepted [] one acc) s (c .form) (c .unit),
-        number-cut aBytes a-moves early whole-hours late acc (a-accepted [] one acc) s (c .form) (c .a),
-        number-cut bBytes b-moves early whole-hours late acc (b-accepted [] one acc) s (c .form) (c .b),
+        number-cut sh in-range unitBytes unit-moves early whole-hours late acc (unit-accepted [] one acc) s (c .form) (c .unit),
+        number-cut sh in-range aBytes a-moves early whole-hours late acc (a-accepted [] one acc) s (c .form) (c .a),
+        number-cut sh in-range bBytes b-moves early whole-hours late acc (b-accepted [] one acc) s (c .form) (c .b),
       )
 
-  pub unit-row : unitRowAt (early ∷ []) (cutOff early late) (earlier first-length s) ≡ unitRowAt [] one s
+  pub unit-row : unitRowAt sh (early ∷ []) (cutOff early late) (earlier first-length s) ≡ unitRowAt sh [] one s
   unfolding unitRowAt
-  unit-row = row-cut unitBytes unit-moves early whole-hours late acc (unit-accepted [] one acc) s (c .form) (c .unit) (pos 0) (pos 0)
+  unit-row = row-cut sh in-range unitBytes unit-moves early whole-hours late acc (unit-accepted [] one acc) s (c .form) (c .unit) (pos 0) (pos 0)
 
   same-point : unitPoint (earlier first-length s .bytes) ≡ unitPoint (s .bytes)
   same-point = ap (λ (x : Record). x .«working_point» .0) (record-back unitBytes unit-moves first-length s (c .form))
@@ -173,16 +175,16 @@ module _ (early : History) (whole-hours : length early % quarterHour ≡ 0) (lat
   module _
       (p : Pool) (m : Moves (p .bytes)) (plant-acc : plant-refusals.Accepted [] (pastOf (p .bytes) one))
       (number : plant-refusals.numberAt [] (pastOf (p .bytes) one) (p .bytes (s .bytes)) ≡ 0) where
-    pool-row : poolRowAt p (early ∷ []) (cutOff early late) (earlier first-length s) ≡ poolRowAt p [] one s
+    pool-row : poolRowAt sh p (early ∷ []) (cutOff early late) (earlier first-length s) ≡ poolRowAt sh p [] one s
     unfolding poolRowAt
     pool-row =
-        row-cut (p .bytes) m early whole-hours late acc plant-acc s (c .form) number _ _
-        ∙ (λ i. plant-rows.rowAt [] (pastOf (p .bytes) one) (recordOf (p .bytes (s .bytes))) (same-point i +ℤ valuesOf (p .sold (s .owner)) (unit-row i)) (same-point i))
+        row-cut sh in-range (p .bytes) m early whole-hours late acc plant-acc s (c .form) number _ _
+        ∙ (λ i. plant-rows.rowAt sh [] (pastOf (p .bytes) one) (recordOf (p .bytes (s .bytes))) (same-point i +ℤ valuesOf (p .sold (s .owner)) (unit-row i)) (same-point i))
 
-  pub a-row : aRowAt (early ∷ []) (cutOff early late) (earlier first-length s) ≡ aRowAt [] one s
+  pub a-row : aRowAt sh (early ∷ []) (cutOff early late) (earlier first-length s) ≡ aRowAt sh [] one s
   a-row = pool-row poolA a-moves (a-accepted [] one acc) (c .a)
 
-  pub b-row : bRowAt (early ∷ []) (cutOff early late) (earlier first-length s) ≡ bRowAt [] one s
+  pub b-row : bRowAt sh (early ∷ []) (cutOff early late) (earlier first-length s) ≡ bRowAt sh [] one s
   b-row = pool-row poolB b-moves (b-accepted [] one acc) (c .b)
 
   pub same-due : dueOf (earlier first-length s .bytes) ≡ dueOf (s .bytes)
@@ -193,7 +195,7 @@ module _ (early : History) (whole-hours : length early % quarterHour ≡ 0) (lat
 
 -- ---- all of them
 
-module _ (early : History) (whole-hours : length early % quarterHour ≡ 0) where
+module _ (sh : Sheet) (in-range : InRange sh) (early : History) (whole-hours : length early % quarterHour ≡ 0) where
   accepted-early : (late : History) → Accepted [] (late ++ early) → Accepted [] early
   unfolding Accepted
   accepted-early [] a = a
@@ -202,16 +204,16 @@ module _ (early : History) (whole-hours : length early % quarterHour ≡ 0) wher
   accepted-late : (late : History) → Accepted [] (late ++ early) → Accepted (early ∷ []) (cutOff early late)
   unfolding Accepted AllClosed
   accepted-late [] a = (whole-hours, a)
-  accepted-late (s ∷ late) a = (second-number early whole-hours late (a .1) s (a .0), accepted-late late (a .1))
+  accepted-late (s ∷ late) a = (second-number sh in-range early whole-hours late (a .1) s (a .0), accepted-late late (a .1))
 
-  rows-cut : (late : History) → Accepted [] (late ++ early) → rowsOf (early ∷ []) (cutOff early late) ++ rowsOf [] early ≡ rowsOf [] (late ++ early)
+  rows-cut : (late : History) → Accepted [] (late ++ early) → rowsOf sh (early ∷ []) (cutOff early late) ++ rowsOf sh [] early ≡ rowsOf sh [] (late ++ early)
   unfolding Accepted
   rows-cut [] a = refl
   rows-cut (s ∷ late) a =
       λ i. record {
-        unit = unit-row early whole-hours late (a .1) s (a .0) i;
-        a = a-row early whole-hours late (a .1) s (a .0) i;
-        b = b-row early whole-hours late (a .1) s (a .0) i;
+        unit = unit-row sh in-range early whole-hours late (a .1) s (a .0) i;
+        a = a-row sh in-range early whole-hours late (a .1) s (a .0) i;
+        b = b-row sh in-range early whole-hours late (a .1) s (a .0) i;
       }
       ∷ rows-cut late (a .1) i
 
@@ -226,16 +228,16 @@ module _ (early : History) (whole-hours : length early % quarterHour ≡ 0) wher
       sym (+ℤ-assoc (sumOver f early) (sumOver g (cutOff early late)) (g (cutOff early late) (earlier (length early) s)))
       ∙ (λ i. sum-cut f g same late (a .1) i +ℤ same late (a .1) s (a .0) i)
 
-  pub cut : (late : History) → Accepted [] (late ++ early) → Cut early late
+  pub cut : (late : History) → Accepted [] (late ++ early) → Cut sh early late
   cut late a =
       record {
         first = accepted-early late a;
         second = accepted-late late a;
         rows = rows-cut late a;
-        a = sum-cut (λ h s. actualsOf (aRowAt [] h s)) (λ h s. actualsOf (aRowAt (early ∷ []) h s)) (λ l p s e. ap actualsOf (a-row early whole-hours l p s e)) late a;
-        b = sum-cut (λ h s. actualsOf (bRowAt [] h s)) (λ h s. actualsOf (bRowAt (early ∷ []) h s)) (λ l p s e. ap actualsOf (b-row early whole-hours l p s e)) late a;
+        a = sum-cut (λ h s. actualsOf (aRowAt sh [] h s)) (λ h s. actualsOf (aRowAt sh (early ∷ []) h s)) (λ l p s e. ap actualsOf (a-row sh in-range early whole-hours l p s e)) late a;
+        b = sum-cut (λ h s. actualsOf (bRowAt sh [] h s)) (λ h s. actualsOf (bRowAt sh (early ∷ []) h s)) (λ l p s e. ap actualsOf (b-row sh in-range early whole-hours l p s e)) late a;
         «open» =
-            sum-cut (λ h s. openOf (unitRowAt [] h s) (aRowAt [] h s) (bRowAt [] h s)) (λ h s. openOf (unitRowAt (early ∷ []) h s) (aRowAt (early ∷ []) h s) (bRowAt (early ∷ []) h s))
-            (λ l p s e i. openOf (unit-row early whole-hours l p s e i) (a-row early whole-hours l p s e i) (b-row early whole-hours l p s e i)) late a;
-        due = sum-cut (λ h s. dueOf (s .bytes)) (λ h s. dueOf (s .bytes)) (λ l p s e. same-due early whole-hours l p s e) late a;
+            sum-cut (λ h s. openOf (unitRowAt sh [] h s) (aRowAt sh [] h s) (bRowAt sh [] h s)) (λ h s. openOf (unitRowAt sh (early ∷ []) h s) (aRowAt sh (early ∷ []) h s) (bRowAt sh (early ∷ []) h s))
+            (λ l p s e i. openOf (unit-row sh in-range early whole-hours l p s e i) (a-row sh in-range early whole-hours l p s e i) (b-row sh in-range early whole-hours l p s e i)) late a;
+        due = sum-cut (λ h s. dueOf (s .bytes)) (λ h s. dueOf (s .bytes)) (λ l p s e. same-due sh in-range early whole-hours l p s e) late a;
       }

@@ -1,5 +1,5 @@
 -- A book second's form: 12 and 16, and the bytes of the three plants. Assumes nothing.
-use mathlib.Core.Path.{_≡_, refl, sym, _∙_}
+use mathlib.Core.Path.{_≡_, refl, sym, ap, _∙_, subst}
 use mathlib.Core.List.{List}
 use Prim.Native.Nat.{ℕ, zero, suc, _-_, _≤_}
 use native.Mathlib.Omega.{arith}
@@ -8,6 +8,8 @@ use lib.Dec.{eqb}
 use lib.ListN.{length, take, drop, length-take, length-drop}
 use lib.Seq.{take-all}
 use Rattle.numbers.proofs.Rules.{none}
+use Rattle.sheet.specs.declared.Sheet.{Sheet}
+use Rattle.sheet.specs.Sheet.{InRange}
 use Rattle.record.specs.Record.{size, bookSize}
 use Rattle.book.specs.declared.Book.{Book}
 use Rattle.book.specs.declared.BookAnswer.the-variants.{Refused}
@@ -40,15 +42,19 @@ module _ (k : Book) (o : ℕ) (s : List ℕ) where
   by-refusal zero given h = absurd (h refl)
   by-refusal (suc n) given h = refl
 
-  by-past : {r : BookStep} → r ≡ stepIn k (secondOf o s) → (c : Closed) (h : History) → Accepted c h → k ≡ stateOf c h → OverPast c h (secondOf o s) r
-  by-past e c h a p = rw (e, p) (over-past c h a (secondOf o s))
+  same-sheet : (sh : Sheet) (c : Closed) (h : History) → k ≡ stateOf sh c h → k .sheet ≡ sh
+  unfolding stateOf
+  same-sheet sh c h p = ap (λ (b : Book). b .sheet) p
+
+  by-past : Ready k → {r : BookStep} → r ≡ stepIn k (secondOf o s) → (sh : Sheet) (c : Closed) (h : History) → Accepted c h → k ≡ stateOf sh c h → OverPast sh c h (secondOf o s) r
+  by-past ready e sh c h a p = rw (e, p) (over-past sh (subst InRange (same-sheet sh c h p) (ready .unit .sheet)) c h a (secondOf o s))
 
   pub refused : {n : ℕ} → n ≡ formNumber (secondOf o s) → (n ≡ 0 → ⊥) → Ready k → Stepped k (secondOf o s) (record { answer = Refused n; book = k })
   unfolding stepIn
   refused {n} e h r =
       let is : record { answer = Refused n; book = k } ≡ stepIn k (secondOf o s) = rw (← e) (by-refusal n _ h) in
-      record { is = is; past = by-past is; ready = r }
+      record { is = is; past = by-past r is; ready = r }
 
-  pub stepped : {u a b : List ℕ} (p : BookStep) → formNumber (secondOf o s) ≡ 0 → PartsOf s u a b → PlantsStepped k o u a b p → Stepped k (secondOf o s) p
+  pub stepped : {u a b : List ℕ} → Ready k → (p : BookStep) → formNumber (secondOf o s) ≡ 0 → PartsOf s u a b → PlantsStepped k o u a b p → Stepped k (secondOf o s) p
   unfolding stepIn
-  stepped p e parts q = let is : p ≡ stepIn k (secondOf o s) = rw e (q .is s parts) in record { is = is; past = by-past is; ready = q .ready }
+  stepped r p e parts q = let is : p ≡ stepIn k (secondOf o s) = rw e (q .is s parts) in record { is = is; past = by-past r is; ready = q .ready }

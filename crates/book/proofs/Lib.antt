@@ -3,6 +3,7 @@ pub mod Past
 pub mod Holds
 pub mod Balance
 pub mod Handing
+pub mod Opening
 pub mod Cut
 pub mod Claims
 pub mod Plants

@@ -1,6 +1,6 @@
 -- A list of book seconds in one slice, taken from the front. Assumes nothing.
 use Prim.Native.Nat.{ℕ, zero, suc, _+_, _-_, _≤_, _<_, min}
-use mathlib.Core.Path.{_≡_, refl, sym, ap, _∙_}
+use mathlib.Core.Path.{_≡_, refl, sym, ap, _∙_, subst}
 use mathlib.Core.List.{List, [], _∷_, _++_}
 use native.Mathlib.Omega.{arith}
 use native.Mathlib.Numerals.{add-one}
@@ -8,9 +8,10 @@ use native.Mathlib.Nat.{lt-of-not-le}
 use native.Mathlib.Decide.{decLe}
 use lib.ListN.{length, getD, take, drop, length-drop, drop-of-length-le}
 use lib.Seq.{drop-cons, drop-drop, take-all, take-append-seam, drop-append-seam, take-nil}
+use Rattle.sheet.specs.Sheet.{InRange}
 use Rattle.book.specs.Seconds.{BookSecond}
 use Rattle.book.specs.declared.Book.{Book}
-use Rattle.book.specs.State.{fresh, stepIn}
+use Rattle.book.specs.State.{fresh, stepIn, Ready}
 use Rattle.book.specs.Run.{bookAfter}
 use Rattle.book.specs.List.{split, listedIn, written, Listed, ListRan}
 use Rattle.book.proofs.Claims.{claims}
@@ -114,5 +115,6 @@ pub after-none : (k : Book) → bookAfter k [] ≡ k
 unfolding bookAfter
 after-none k = refl
 
-pub ran : (ss : List BookSecond) (r : Book) → bookAfter fresh ss ≡ r → ListRan ss r
-ran ss r q = record { is = sym q; claims = claims ss }
+pub ran : (k : Book) → Ready k → (ss : List BookSecond) (r : Book) → bookAfter k ss ≡ r → ListRan k ss r
+unfolding fresh
+ran k i ss r q = record { is = sym q; claims = λ sh e. claims sh (subst InRange (ap (λ (b : Book). b .sheet) e) (i .unit .sheet)) ss }

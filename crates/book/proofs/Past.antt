@@ -6,6 +6,8 @@ use lib.IntN.{ℤ, pos}
 use lib.ListN.{length-map}
 use Rattle.numbers.specs.Rules.{orElse}
 use Rattle.numbers.proofs.Rules.{neither}
+use Rattle.sheet.specs.declared.Sheet.{Sheet}
+use Rattle.sheet.specs.Sheet.{InRange}
 use Rattle.record.specs.Record.{recordOf}
 use Rattle.row.specs.declared.Row.{Row}
 use Rattle.plant.specs.declared.PlantStep.{PlantStep}
@@ -77,91 +79,92 @@ b-accepted c h a = part-accepted bBytes (λ d p s e. e .b) c h a
 
 -- ---- one second
 
-module _ (c : Closed) (h : History) (accepted : Accepted c h) (s : BookSecond) where
+module _ (sh : Sheet) (r : InRange sh) (c : Closed) (h : History) (accepted : Accepted c h) (s : BookSecond) where
   abbrev u : Row
-  u = unitRowAt c h s
+  u = unitRowAt sh c h s
 
   abbrev a : Row
-  a = aRowAt c h s
+  a = aRowAt sh c h s
 
   abbrev b : Row
-  b = bRowAt c h s
+  b = bRowAt sh c h s
 
   -- a plant's step over its own past
   abbrev over : (List ℕ → List ℕ) → ℤ → ℤ → PlantStep
   over part m w =
       record {
-        answer = plant.answerAt (closedOf part c) (pastOf part h) (part (s .bytes)) m w;
-        state = plant-state.stateOf (closedOf part c) (plant-refusals.grown (closedOf part c) (pastOf part h) (part (s .bytes)));
+        answer = plant.answerAt sh (closedOf part c) (pastOf part h) (part (s .bytes)) m w;
+        state = plant-state.stateOf sh (closedOf part c) (plant-refusals.grown (closedOf part c) (pastOf part h) (part (s .bytes)));
       }
 
-  unit-over : unitIn (stateOf c h) s ≡ over unitBytes (pos 0) (pos 0)
+  unit-over : unitIn (stateOf sh c h) s ≡ over unitBytes (pos 0) (pos 0)
   unfolding unitIn stateOf
-  unit-over = over-bytes (closedOf unitBytes c) (pastOf unitBytes h) (unit-accepted c h accepted) (unitBytes (s .bytes)) (pos 0) (pos 0)
+  unit-over = over-bytes sh r (closedOf unitBytes c) (pastOf unitBytes h) (unit-accepted c h accepted) (unitBytes (s .bytes)) (pos 0) (pos 0)
 
-  a-over : aIn (stateOf c h) s u ≡ over aBytes (addedTo poolA s u) (unitPoint (s .bytes))
+  a-over : aIn (stateOf sh c h) s u ≡ over aBytes (addedTo poolA s u) (unitPoint (s .bytes))
   unfolding poolIn stateOf
-  a-over = over-bytes (closedOf aBytes c) (pastOf aBytes h) (a-accepted c h accepted) (aBytes (s .bytes)) _ _
+  a-over = over-bytes sh r (closedOf aBytes c) (pastOf aBytes h) (a-accepted c h accepted) (aBytes (s .bytes)) _ _
 
-  b-over : bIn (stateOf c h) s u ≡ over bBytes (addedTo poolB s u) (unitPoint (s .bytes))
+  b-over : bIn (stateOf sh c h) s u ≡ over bBytes (addedTo poolB s u) (unitPoint (s .bytes))
   unfolding poolIn stateOf
-  b-over = over-bytes (closedOf bBytes c) (pastOf bBytes h) (b-accepted c h accepted) (bBytes (s .bytes)) _ _
+  b-over = over-bytes sh r (closedOf bBytes c) (pastOf bBytes h) (b-accepted c h accepted) (bBytes (s .bytes)) _ _
 
-  unit-answer : unitIn (stateOf c h) s .answer ≡ plant.answerBy (unitNumber c h s) u
+  unit-answer : unitIn (stateOf sh c h) s .answer ≡ plant.answerBy (unitNumber c h s) u
   unfolding unitRowAt plant.answerAt
   unit-answer = ap (λ (p : PlantStep). p .answer) unit-over
 
-  a-answer : aIn (stateOf c h) s u .answer ≡ plant.answerBy (aNumber c h s) a
+  a-answer : aIn (stateOf sh c h) s u .answer ≡ plant.answerBy (aNumber c h s) a
   unfolding poolRowAt plant.answerAt
   a-answer = ap (λ (p : PlantStep). p .answer) a-over
 
-  b-answer : bIn (stateOf c h) s u .answer ≡ plant.answerBy (bNumber c h s) b
+  b-answer : bIn (stateOf sh c h) s u .answer ≡ plant.answerBy (bNumber c h s) b
   unfolding poolRowAt plant.answerAt
   b-answer = ap (λ (p : PlantStep). p .answer) b-over
 
   -- a plant's state after a second that it accepted
-  grown-state : (part : List ℕ → List ℕ) (l : List ℕ) → plant-refusals.numberAt (closedOf part c) (pastOf part h) l ≡ 0 → plant-state.stateOf (closedOf part c) (plant-refusals.grown (closedOf part c) (pastOf part h) l) ≡ plant-state.stateOf (closedOf part c) (recordOf l ∷ pastOf part h)
+  grown-state : (part : List ℕ → List ℕ) (l : List ℕ) → plant-refusals.numberAt (closedOf part c) (pastOf part h) l ≡ 0 → plant-state.stateOf sh (closedOf part c) (plant-refusals.grown (closedOf part c) (pastOf part h) l) ≡ plant-state.stateOf sh (closedOf part c) (recordOf l ∷ pastOf part h)
   unfolding plant-refusals.grown
   grown-state part l e = rw e
 
   abbrev outcome : ℕ → ℕ → ℕ → ℕ → BookStep
-  outcome nf nu na nb = record { answer = answerBy nf nu na nb u a b; book = stateOf c (grownBy (orElse nf (orElse nu (orElse na nb))) s h) }
+  outcome nf nu na nb = record { answer = answerBy nf nu na nb u a b; book = stateOf sh c (grownBy (orElse nf (orElse nu (orElse na nb))) s h) }
 
-  accepted-is : unitNumber c h s ≡ 0 → aNumber c h s ≡ 0 → bNumber c h s ≡ 0 → acceptedIn (stateOf c h) s u a b ≡ outcome 0 0 0 0
+  accepted-is : unitNumber c h s ≡ 0 → aNumber c h s ≡ 0 → bNumber c h s ≡ 0 → acceptedIn (stateOf sh c h) s u a b ≡ outcome 0 0 0 0
   unfolding stateOf sumsWith sumsOf
   accepted-is eu ea eb =
       λ i. record {
         answer = answerBy 0 0 0 0 u a b;
         book =
             record {
+              sheet = sh;
               unit = (ap (λ (p : PlantStep). p .state) unit-over ∙ grown-state unitBytes (unitBytes (s .bytes)) eu) i;
               a = (ap (λ (p : PlantStep). p .state) a-over ∙ grown-state aBytes (aBytes (s .bytes)) ea) i;
               b = (ap (λ (p : PlantStep). p .state) b-over ∙ grown-state bBytes (bBytes (s .bytes)) eb) i;
-              sums = sumsOf c (s ∷ h);
+              sums = sumsOf sh c (s ∷ h);
             };
       }
 
   by-b : (n : ℕ) → bNumber c h s ≡ n → unitNumber c h s ≡ 0 → aNumber c h s ≡ 0
-      → onRow (bIn (stateOf c h) s u .answer) (λ b. acceptedIn (stateOf c h) s u a b) (refusedBy (stateOf c h) B) ≡ outcome 0 0 0 n
+      → onRow (bIn (stateOf sh c h) s u .answer) (λ b. acceptedIn (stateOf sh c h) s u a b) (refusedBy (stateOf sh c h) B) ≡ outcome 0 0 0 n
   by-b zero e eu ea = rw (b-answer, e) (accepted-is eu ea e)
   by-b (suc n) e eu ea = rw (b-answer, e)
 
   by-a : (n : ℕ) → aNumber c h s ≡ n → unitNumber c h s ≡ 0
-      → onRow (aIn (stateOf c h) s u .answer) (λ a. onRow (bIn (stateOf c h) s u .answer) (λ b. acceptedIn (stateOf c h) s u a b) (refusedBy (stateOf c h) B)) (refusedBy (stateOf c h) A)
+      → onRow (aIn (stateOf sh c h) s u .answer) (λ a. onRow (bIn (stateOf sh c h) s u .answer) (λ b. acceptedIn (stateOf sh c h) s u a b) (refusedBy (stateOf sh c h) B)) (refusedBy (stateOf sh c h) A)
       ≡ outcome 0 0 n (bNumber c h s)
   by-a zero e eu = rw (a-answer, e) (by-b (bNumber c h s) refl eu e)
   by-a (suc n) e eu = rw (a-answer, e)
 
-  by-unit : (n : ℕ) → unitNumber c h s ≡ n → plantsIn (stateOf c h) s ≡ outcome 0 n (aNumber c h s) (bNumber c h s)
+  by-unit : (n : ℕ) → unitNumber c h s ≡ n → plantsIn (stateOf sh c h) s ≡ outcome 0 n (aNumber c h s) (bNumber c h s)
   unfolding plantsIn
   by-unit zero e = rw (unit-answer, e) (by-a (aNumber c h s) refl e)
   by-unit (suc n) e = rw (unit-answer, e)
 
-  pub step-over : stepIn (stateOf c h) s ≡ record { answer = answerAt c h s; book = stateOf c (grown c h s) }
+  pub step-over : stepIn (stateOf sh c h) s ≡ record { answer = answerAt sh c h s; book = stateOf sh c (grown c h s) }
   unfolding stepIn answerAt grown numberAt
   step-over = go (formNumber s)
     where
-      go : (n : ℕ) → stepBy n (stateOf c h) (plantsIn (stateOf c h) s) ≡ outcome n (unitNumber c h s) (aNumber c h s) (bNumber c h s)
+      go : (n : ℕ) → stepBy n (stateOf sh c h) (plantsIn (stateOf sh c h) s) ≡ outcome n (unitNumber c h s) (aNumber c h s) (bNumber c h s)
       go zero = by-unit (unitNumber c h s) refl
       go (suc n) = refl
 
@@ -189,10 +192,10 @@ still-accepted c h a s = go (numberAt c h s) refl
     go zero e = (e, a)
     go (suc n) e = a
 
-pub over-past : (c : Closed) (h : History) → Accepted c h → (s : BookSecond) → OverPast c h s (stepIn (stateOf c h) s)
+pub over-past : (sh : Sheet) → InRange sh → (c : Closed) (h : History) → Accepted c h → (s : BookSecond) → OverPast sh c h s (stepIn (stateOf sh c h) s)
 unfolding answerAt numberAt
-over-past c h a s =
-    let o = step-over c h a s in
+over-past sh r c h a s =
+    let o = step-over sh r c h a s in
     record {
       said = ap (λ (p : BookStep). says (p .answer)) o ∙ says-by (formNumber s) (unitNumber c h s) (aNumber c h s) (bNumber c h s) _ _ _;
       number = ap (λ (p : BookStep). numberIn (p .answer)) o ∙ number-by (formNumber s) (unitNumber c h s) (aNumber c h s) (bNumber c h s) _ _ _;

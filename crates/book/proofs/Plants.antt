@@ -6,6 +6,7 @@ use native.Mathlib.Omega.{arith}
 use lib.IntN.{ℤ, pos, _+ℤ_}
 use Rattle.numbers.specs.Bounds.{Within}
 use Rattle.numbers.proofs.Fit.{fit, within-lit}
+use Rattle.sheet.specs.declared.Sheet.{Sheet}
 use Rattle.record.specs.declared.Record.{Record}
 use Rattle.record.specs.Record.{mostSeconds, recordOf}
 use Rattle.row.specs.declared.Row.{Row}
@@ -25,31 +26,31 @@ use Rattle.book.specs.declared.BookStep.{BookStep}
 use Rattle.book.specs.declared.Plant.the-variants.{U, A, B}
 use Rattle.book.specs.Seconds.{dueFrom, dueOf}
 use Rattle.book.specs.Rows.{valuesOf, unitPoint, Pool, poolA, poolB}
-use Rattle.book.specs.State.{secondOf, unitIn, poolIn, aIn, bIn, sumsWith, refusedBy, plantsIn, mostAtUnit, mostAtPool, Ready, SumsReady, InRange, Summed, PartsOf, PlantsStepped}
+use Rattle.book.specs.State.{secondOf, unitIn, poolIn, aIn, bIn, sumsWith, refusedBy, plantsIn, mostAtUnit, mostAtPool, Ready, SumsReady, PowersInRange, Summed, PartsOf, PlantsStepped}
 use Rattle.book.proofs.Sizes.{shared-within, difference-small, sums-longer, sums-more}
 
 -- ---- a plant's second
 
 -- the step that the plant at the state st answered, for the bytes s with m and w added
-pub record Answered (st : PlantState) (s : List ℕ) (m w : ℤ) : Type 0 where
+pub record Answered (sh : Sheet) (st : PlantState) (s : List ℕ) (m w : ℤ) : Type 0 where
   pub step : PlantStep
-  pub stepped : plant.Stepped st s m w step
+  pub stepped : plant.Stepped sh st s m w step
 
 -- and it gave a row
-pub record RowGiven (st : PlantState) (s : List ℕ) (m w : ℤ) : Type 0 where
-  pub answered : Answered st s m w
+pub record RowGiven (sh : Sheet) (st : PlantState) (s : List ℕ) (m w : ℤ) : Type 0 where
+  pub answered : Answered sh st s m w
   pub row : Row
   pub gave : answered .step .answer ≡ plant-answer.Row row
 
-module _ {st : PlantState} {s : List ℕ} {m w : ℤ} (g : RowGiven st s m w) where
-  range : InRange (recordOf s)
+module _ {sh : Sheet} {st : PlantState} {s : List ℕ} {m w : ℤ} (g : RowGiven sh st s m w) where
+  range : PowersInRange (recordOf s)
   range = let f = g .answered .stepped .facts .given (g .gave) in record { measured = f .measured; working-point = f .working-point }
 
   sized : (M W D : ℕ) → mostPower + M + (mostPower + W) ≤ D → Within M m → Within W w → SizedRow D (g .row)
   sized M W D h a b = g .answered .stepped .facts .given (g .gave) .sized D (shared-within M W D (recordOf s) m w h range a b)
 
   counted : g .answered .step .state .seconds ≡ st .seconds + 1
-  counted = rw (g .answered .stepped .is) (plant-counted.counted st s m w (g .row) (rw (g .answered .stepped .is) at (g .gave)))
+  counted = rw (g .answered .stepped .is) (plant-counted.counted sh st s m w (g .row) (rw (g .answered .stepped .is) at (g .gave)))
 
 -- ---- what is known at each place
 
@@ -70,7 +71,7 @@ Right q r = PlantsStepped (q .book) (q .owner) (q .unit) (q .a) (q .b) r
 
 -- the unit gave its row, and its record was read
 pub record UnitGiven (q : Asked) : Type 0 where
-  pub given : RowGiven (q .book .unit) (q .unit) (pos 0) (pos 0)
+  pub given : RowGiven (q .book .sheet) (q .book .unit) (q .unit) (pos 0) (pos 0)
   pub fields : Record
   pub is-record : fields ≡ recordOf (q .unit)
 
@@ -86,15 +87,15 @@ pub record AddedTo (q : Asked) (g : UnitGiven q) (pool : Pool) : Type 0 where
 -- the pool at the state st gave its row for the bytes s
 pub record PoolGiven (q : Asked) (g : UnitGiven q) (pool : Pool) (st : PlantState) (s : List ℕ) : Type 0 where
   pub added : AddedTo q g pool
-  pub given : RowGiven st s (added .sum) (point g)
+  pub given : RowGiven (q .book .sheet) st s (added .sum) (point g)
 
 -- ---- the unit
 
-unit-is : (q : Asked) (p : Answered (q .book .unit) (q .unit) (pos 0) (pos 0)) (s : List ℕ) → Of q s → p .step ≡ unitIn (q .book) (secondOf (q .owner) s)
+unit-is : (q : Asked) (p : Answered (q .book .sheet) (q .book .unit) (q .unit) (pos 0) (pos 0)) (s : List ℕ) → Of q s → p .step ≡ unitIn (q .book) (secondOf (q .owner) s)
 unfolding unitIn
-unit-is q p s parts = p .stepped .is ∙ ap (λ (l : List ℕ). plant.stepIn (q .book .unit) l (pos 0) (pos 0)) (parts .unit-part)
+unit-is q p s parts = p .stepped .is ∙ ap (λ (l : List ℕ). plant.stepIn (q .book .sheet) (q .book .unit) l (pos 0) (pos 0)) (parts .unit-part)
 
-pub unit-refused : (q : Asked) (p : Answered (q .book .unit) (q .unit) (pos 0) (pos 0)) {n r : ℕ} → p .step .answer ≡ plant-answer.Refused n → r ≡ plant-rows.numberIn (p .step .answer) → Right q (refusedBy (q .book) U r)
+pub unit-refused : (q : Asked) (p : Answered (q .book .sheet) (q .book .unit) (q .unit) (pos 0) (pos 0)) {n r : ℕ} → p .step .answer ≡ plant-answer.Refused n → r ≡ plant-rows.numberIn (p .step .answer) → Right q (refusedBy (q .book) U r)
 unfolding plantsIn
 unit-refused q p e h = record { is = λ s parts. rw (← (unit-is q p s parts), h, e); ready = q .ready }
 
@@ -111,17 +112,17 @@ module _ (q : Asked) (g : UnitGiven q) where
   -- ---- a pool
 
   pool-is :
-      (pool : Pool) (st : PlantState) (l : List ℕ) (m : AddedTo q g pool) (p : Answered st l (m .sum) (point g)) (s : List ℕ) → Of q s → l ≡ pool .bytes s
-      → p .step ≡ poolIn pool st (secondOf (q .owner) s) (g .given .row)
+      (pool : Pool) (st : PlantState) (l : List ℕ) (m : AddedTo q g pool) (p : Answered (q .book .sheet) st l (m .sum) (point g)) (s : List ℕ) → Of q s → l ≡ pool .bytes s
+      → p .step ≡ poolIn (q .book .sheet) pool st (secondOf (q .owner) s) (g .given .row)
   unfolding poolIn
   pool-is pool st l m p s parts el =
       let n : m .sum ≡ unitPoint s +ℤ valuesOf (pool .sold (q .owner)) (g .given .row) = m .is ∙ (λ i. point-is s parts i +ℤ valuesOf (pool .sold (q .owner)) (g .given .row)) in
-      p .stepped .is ∙ (λ i. plant.stepIn st (el i) (n i) (point-is s parts i))
+      p .stepped .is ∙ (λ i. plant.stepIn (q .book .sheet) st (el i) (n i) (point-is s parts i))
 
   pool-sized : {pool : Pool} {st : PlantState} {l : List ℕ} (p : PoolGiven q g pool st l) → SizedRow mostAtPool (p .given .row)
   pool-sized p = sized (p .given) mostAdded mostPower mostAtPool (omega arith) (p .added .small) point-small
 
-  module _ (m : AddedTo q g poolA) (p : Answered (q .book .a) (q .a) (m .sum) (point g)) where
+  module _ (m : AddedTo q g poolA) (p : Answered (q .book .sheet) (q .book .a) (q .a) (m .sum) (point g)) where
     a-is : (s : List ℕ) → Of q s → p .step ≡ aIn (q .book) (secondOf (q .owner) s) (g .given .row)
     a-is s parts = pool-is poolA (q .book .a) (q .a) m p s parts (parts .a-part)
 
@@ -131,7 +132,7 @@ module _ (q : Asked) (g : UnitGiven q) where
         record { is = λ s parts. rw (← (unit-is q (g .given .answered) s parts), g .given .gave, ← (a-is s parts), h, e); ready = q .ready }
 
   module _ (a : PoolGiven q g poolA (q .book .a) (q .a)) where
-    module _ (m : AddedTo q g poolB) (p : Answered (q .book .b) (q .b) (m .sum) (point g)) where
+    module _ (m : AddedTo q g poolB) (p : Answered (q .book .sheet) (q .book .b) (q .b) (m .sum) (point g)) where
       b-is : (s : List ℕ) → Of q s → p .step ≡ bIn (q .book) (secondOf (q .owner) s) (g .given .row)
       b-is s parts = pool-is poolB (q .book .b) (q .b) m p s parts (parts .b-part)
 
@@ -149,7 +150,7 @@ module _ (q : Asked) (g : UnitGiven q) where
     -- ---- all three rows
 
     module _ (b : PoolGiven q g poolB (q .book .b) (q .b)) where
-      pub ranges : InRange (recordOf (q .unit)) × InRange (recordOf (q .a)) × InRange (recordOf (q .b))
+      pub ranges : PowersInRange (recordOf (q .unit)) × PowersInRange (recordOf (q .a)) × PowersInRange (recordOf (q .b))
       ranges = (range (g .given), range (a .given), range (b .given))
 
       module _ (d : ℤ) (ed : d ≡ dueFrom (q .unit) (q .a) (q .b)) where
@@ -178,7 +179,7 @@ module _ (q : Asked) (g : UnitGiven q) where
           rows-step =
               record {
                 answer = Rows (g .given .row) (a .given .row) (b .given .row);
-                book = record { unit = g .given .answered .step .state; a = a .given .answered .step .state; b = b .given .answered .step .state; sums = t };
+                book = record { sheet = q .book .sheet; unit = g .given .answered .step .state; a = a .given .answered .step .state; b = b .given .answered .step .state; sums = t };
               }
 
           rows-are : (s : List ℕ) → Of q s → rows-step ≡ plantsIn (q .book) (secondOf (q .owner) s)

@@ -23,7 +23,7 @@ use Rattle.sharing.proofs.Sizes.{less, more}
 use Rattle.book.specs.Seconds.{difference}
 use Rattle.book.specs.Rows.{valueIf, valuesOf}
 use Rattle.book.specs.Sums.{kwSeconds, actualsOf, openOf}
-use Rattle.book.specs.State.{mostSummand, mostAtUnit, mostAtPool, mostValues, mostInSecond, sumsWith, SumsReady, InRange, Summed}
+use Rattle.book.specs.State.{mostSummand, mostAtUnit, mostAtPool, mostValues, mostInSecond, sumsWith, SumsReady, PowersInRange, Summed}
 
 three : (B C : ℕ) (x y z : ℤ) → 3 * B ≤ C → Within B x → Within B y → Within B z → Within C (x +ℤ (y +ℤ z))
 three B C x y z h p q r = more B (2 * B) C x (y +ℤ z) (omega arith) p (more B B (2 * B) y z (omega arith) q r)
@@ -56,7 +56,7 @@ module _ (b : KindBits) (r : Row) (s : SizedRow mostAtUnit r) where
   values-small = three mostActual mostValues _ _ _ (omega arith) fcr-value afrr-value mfrr-value
 
 -- measured - working point of a record as shared, where sharing adds m and w
-pub shared-within : (M W D : ℕ) (x : Record) (m w : ℤ) → mostPower + M + (mostPower + W) ≤ D → InRange x → Within M m → Within W w → Within D (sharedDifference x m w)
+pub shared-within : (M W D : ℕ) (x : Record) (m w : ℤ) → mostPower + M + (mostPower + W) ≤ D → PowersInRange x → Within M m → Within W w → Within D (sharedDifference x m w)
 shared-within M W D x m w h r p q =
     less (mostPower + M) (mostPower + W) D _ _ h
     (more mostPower M (mostPower + M) _ m (omega arith) (r .measured) p)
@@ -73,7 +73,7 @@ pub open-small : (u a b : Row) → SizedRow mostAtUnit u → SizedRow mostAtPool
 open-small u a b p q r =
     three mostAtPool mostInSecond _ _ _ (omega arith) (within-le mostAtUnit mostAtPool _ (p .open-within) tt) (q .open-within) (r .open-within)
 
-pub difference-small : (x : Record) → InRange x → Within mostAtUnit (difference x)
+pub difference-small : (x : Record) → PowersInRange x → Within mostAtUnit (difference x)
 difference-small x r = less mostPower mostPower mostAtUnit _ _ (omega arith) (r .measured) (r .working-point)
 
 -- ---- the sums

@@ -5,6 +5,7 @@ use mathlib.Core.Path.{_≡_}
 use mathlib.Core.List.{List, [], _∷_, _++_, map}
 use lib.IntN.{_+ℤ_}
 use lib.ListN.{length}
+use Rattle.sheet.specs.declared.Sheet.{Sheet}
 use Rattle.record.specs.Record.{movedBack}
 use Rattle.row.specs.declared.Row.{Row}
 use Rattle.book.specs.Seconds.{BookSecond, History, Closed, unitBytes, aBytes, bBytes}
@@ -25,20 +26,20 @@ pub record BookRow : Type 0 where
   pub a : Row
   pub b : Row
 
-abbrev pub rowsOf : Closed → History → List BookRow
-rowsOf c [] = []
-rowsOf c (s ∷ h) = record { unit = unitRowAt c h s; a = aRowAt c h s; b = bRowAt c h s } ∷ rowsOf c h
+abbrev pub rowsOf : Sheet → Closed → History → List BookRow
+rowsOf sh c [] = []
+rowsOf sh c (s ∷ h) = record { unit = unitRowAt sh c h s; a = aRowAt sh c h s; b = bRowAt sh c h s } ∷ rowsOf sh c h
 
 -- the second book's own seconds, where `early` are the first one's and `late` those that follow them in the one book, both newest first
 abbrev pub cutOff : History → History → History
 cutOff early late = map (earlier (length early)) late
 
-pub record Cut (early late : History) : Type 0 where
+pub record Cut (sh : Sheet) (early late : History) : Type 0 where
   -- all are accepted in the two books too
   pub first : Accepted [] early
   pub second : Accepted (early ∷ []) (cutOff early late)
-  pub rows : rowsOf (early ∷ []) (cutOff early late) ++ rowsOf [] early ≡ rowsOf [] (late ++ early)
-  pub a : sumA [] early +ℤ sumA (early ∷ []) (cutOff early late) ≡ sumA [] (late ++ early)
-  pub b : sumB [] early +ℤ sumB (early ∷ []) (cutOff early late) ≡ sumB [] (late ++ early)
-  pub «open» : sumOpen [] early +ℤ sumOpen (early ∷ []) (cutOff early late) ≡ sumOpen [] (late ++ early)
+  pub rows : rowsOf sh (early ∷ []) (cutOff early late) ++ rowsOf sh [] early ≡ rowsOf sh [] (late ++ early)
+  pub a : sumA sh [] early +ℤ sumA sh (early ∷ []) (cutOff early late) ≡ sumA sh [] (late ++ early)
+  pub b : sumB sh [] early +ℤ sumB sh (early ∷ []) (cutOff early late) ≡ sumB sh [] (late ++ early)
+  pub «open» : sumOpen sh [] early +ℤ sumOpen sh (early ∷ []) (cutOff early late) ≡ sumOpen sh [] (late ++ early)
   pub due : sumDue early +ℤ sumDue (cutOff early late) ≡ sumDue (late ++ early)

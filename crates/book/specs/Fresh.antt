@@ -5,6 +5,7 @@ use mathlib.Core.Path.{_≡_}
 use mathlib.Core.Logic.{_↔_}
 use mathlib.Core.List.{List, [], _∷_}
 use Rattle.numbers.specs.Rules.{orElse}
+use Rattle.sheet.specs.declared.Sheet.{Sheet}
 use Rattle.record.specs.Record.{recordOf}
 use Rattle.plant.specs.Refusals as plant
 use Rattle.plant.specs.Rows as plant-rows
@@ -20,19 +21,20 @@ use lib.IntN.{pos}
 abbrev pub plantNumber : (List ℕ → List ℕ) → History → BookSecond → ℕ
 plantNumber part h s = plant.numberAt [] (pastOf part h) (part (s .bytes))
 
-pub record FreshBook (h : History) : Type 0 where
+pub record FreshBook (sh : Sheet) (h : History) : Type 0 where
   pub number : (s : BookSecond) → numberAt [] h s ≡ orElse (formNumber s) (orElse (plantNumber unitBytes h s) (orElse (plantNumber aBytes h s) (plantNumber bBytes h s)))
-  pub unit-row : (s : BookSecond) → unitRowAt [] h s ≡ plant-rows.rowAt [] (pastOf unitBytes h) (recordOf (unitBytes (s .bytes))) (pos 0) (pos 0)
+  pub unit-row : (s : BookSecond) → unitRowAt sh [] h s ≡ plant-rows.rowAt sh [] (pastOf unitBytes h) (recordOf (unitBytes (s .bytes))) (pos 0) (pos 0)
   pub pool-row :
       (p : Pool) (s : BookSecond)
-      → poolRowAt p [] h s ≡ plant-rows.rowAt [] (pastOf (p .bytes) h) (recordOf (p .bytes (s .bytes))) (addedTo p s (unitRowAt [] h s)) (unitPoint (s .bytes))
+      → poolRowAt sh p [] h s ≡ plant-rows.rowAt sh [] (pastOf (p .bytes) h) (recordOf (p .bytes (s .bytes))) (addedTo p s (unitRowAt sh [] h s)) (unitPoint (s .bytes))
   pub state :
-      stateOf [] h
+      stateOf sh [] h
       ≡ record {
-        unit = plant-state.stateOf [] (pastOf unitBytes h);
-        a = plant-state.stateOf [] (pastOf aBytes h);
-        b = plant-state.stateOf [] (pastOf bBytes h);
-        sums = sumsOf [] h;
+        sheet = sh;
+        unit = plant-state.stateOf sh [] (pastOf unitBytes h);
+        a = plant-state.stateOf sh [] (pastOf aBytes h);
+        b = plant-state.stateOf sh [] (pastOf bBytes h);
+        sums = sumsOf sh [] h;
       }
   -- "A book second is accepted when no refusal number applies to it, judged with the seconds accepted before it"
   pub accepted : (s : BookSecond) → Accepted [] (s ∷ h) ↔ ((numberAt [] h s ≡ 0) × Accepted [] h)

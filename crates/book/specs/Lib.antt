@@ -4,6 +4,7 @@ pub mod Rows
 pub mod Sums
 pub mod State
 pub mod HandOver
+pub mod Open
 pub mod Run
 pub mod Cut
 pub mod Fresh

@@ -3,6 +3,7 @@ use Prim.Native.Nat.{ℕ, zero, suc}
 use mathlib.Core.Path.{_≡_}
 use mathlib.Core.List.{List, [], _∷_, _++_}
 use lib.ListN.{length, take, drop}
+use Rattle.sheet.specs.declared.Sheet.{Sheet}
 use Rattle.book.specs.declared.Book.{Book}
 use Rattle.book.specs.Seconds.{BookSecond}
 use Rattle.book.specs.State.{fresh}
@@ -27,7 +28,7 @@ written (s ∷ ss) = s .owner ∷ (length (s .bytes) ∷ (s .bytes ++ written ss
 pub record Listed : Type 0 where
   pub read-back : (ss : List BookSecond) → listedIn (written ss) ≡ ss
 
--- what running the list gives: the book after it, of which the whole claim holds
-pub record ListRan (ss : List BookSecond) (r : Book) : Type 0 where
-  pub is : r ≡ bookAfter fresh ss
-  pub claims : Claims ss
+-- what running the list from the book k gives: the book after it; and of a fresh book the whole claim holds
+pub record ListRan (k : Book) (ss : List BookSecond) (r : Book) : Type 0 where
+  pub is : r ≡ bookAfter k ss
+  pub claims : (sh : Sheet) → k ≡ fresh sh → Claims sh ss

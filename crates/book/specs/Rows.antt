@@ -3,6 +3,7 @@ use Prim.Native.Nat.{ℕ, zero, suc}
 use mathlib.Core.Bool.{Bool, not, cond}
 use mathlib.Core.List.{List, _++_}
 use lib.IntN.{ℤ, pos, _+ℤ_}
+use Rattle.sheet.specs.declared.Sheet.{Sheet}
 use Rattle.record.specs.declared.KindBits.{KindBits}
 use Rattle.record.specs.Record.{recordOf, bitsOf}
 use Rattle.row.specs.declared.KindRow.{KindRow}
@@ -36,8 +37,8 @@ soldByB o = bitsOf o
 
 -- ---- the rows of second s after the closed books c and the seconds h
 
-unfoldable pub unitRowAt : Closed → History → BookSecond → Row
-unitRowAt c h s = plant.rowAt (closedOf unitBytes c) (pastOf unitBytes h) (recordOf (unitBytes (s .bytes))) (pos 0) (pos 0)
+unfoldable pub unitRowAt : Sheet → Closed → History → BookSecond → Row
+unitRowAt sh c h s = plant.rowAt sh (closedOf unitBytes c) (pastOf unitBytes h) (recordOf (unitBytes (s .bytes))) (pos 0) (pos 0)
 
 -- the unit's working point
 abbrev pub unitPoint : List ℕ → ℤ
@@ -61,15 +62,15 @@ poolB = record { bytes = bBytes; sold = soldByB }
 abbrev pub addedTo : Pool → BookSecond → Row → ℤ
 addedTo p s u = unitPoint (s .bytes) +ℤ valuesOf (p .sold (s .owner)) u
 
-unfoldable pub poolRowAt : Pool → Closed → History → BookSecond → Row
-poolRowAt p c h s =
-    plant.rowAt (closedOf (p .bytes) c) (pastOf (p .bytes) h) (recordOf (p .bytes (s .bytes))) (addedTo p s (unitRowAt c h s)) (unitPoint (s .bytes))
+unfoldable pub poolRowAt : Sheet → Pool → Closed → History → BookSecond → Row
+poolRowAt sh p c h s =
+    plant.rowAt sh (closedOf (p .bytes) c) (pastOf (p .bytes) h) (recordOf (p .bytes (s .bytes))) (addedTo p s (unitRowAt sh c h s)) (unitPoint (s .bytes))
 
-abbrev pub aRowAt : Closed → History → BookSecond → Row
-aRowAt c h s = poolRowAt poolA c h s
+abbrev pub aRowAt : Sheet → Closed → History → BookSecond → Row
+aRowAt sh c h s = poolRowAt sh poolA c h s
 
-abbrev pub bRowAt : Closed → History → BookSecond → Row
-bRowAt c h s = poolRowAt poolB c h s
+abbrev pub bRowAt : Sheet → Closed → History → BookSecond → Row
+bRowAt sh c h s = poolRowAt sh poolB c h s
 
 -- ---- the answer
 
@@ -81,9 +82,9 @@ answerBy zero zero (suc n) nb u a b = RefusedBy A (suc n)
 answerBy zero zero zero (suc n) u a b = RefusedBy B (suc n)
 answerBy zero zero zero zero u a b = Rows u a b
 
-unfoldable pub answerAt : Closed → History → BookSecond → BookAnswer
-answerAt c h s =
-    answerBy (formNumber s) (unitNumber c h s) (aNumber c h s) (bNumber c h s) (unitRowAt c h s) (aRowAt c h s) (bRowAt c h s)
+unfoldable pub answerAt : Sheet → Closed → History → BookSecond → BookAnswer
+answerAt sh c h s =
+    answerBy (formNumber s) (unitNumber c h s) (aNumber c h s) (bNumber c h s) (unitRowAt sh c h s) (aRowAt sh c h s) (bRowAt sh c h s)
 
 -- ---- the answer in 01's terms
 
@@ -104,9 +105,9 @@ saidBy zero zero (suc n) nb fs = refusedBy A (suc n)
 saidBy zero zero zero (suc n) fs = refusedBy B (suc n)
 saidBy zero zero zero zero fs = figures fs
 
-abbrev pub saidAt : Closed → History → BookSecond → Said
-saidAt c h s =
-    saidBy (formNumber s) (unitNumber c h s) (aNumber c h s) (bNumber c h s) (bookFigures (unitRowAt c h s) (aRowAt c h s) (bRowAt c h s))
+abbrev pub saidAt : Sheet → Closed → History → BookSecond → Said
+saidAt sh c h s =
+    saidBy (formNumber s) (unitNumber c h s) (aNumber c h s) (bNumber c h s) (bookFigures (unitRowAt sh c h s) (aRowAt sh c h s) (bRowAt sh c h s))
 
 -- what each case of the answer says, and its number, 0 with rows
 abbrev pub says : BookAnswer → Said

@@ -6,6 +6,7 @@ use mathlib.Core.List.{List, []}
 use lib.IntN.{ℤ, pos, _+ℤ_}
 use lib.ListN.{length}
 use Rattle.numbers.specs.Bounds.{Within}
+use Rattle.sheet.specs.declared.Sheet.{Sheet}
 use Rattle.record.specs.Record.{size, recordOf}
 use Rattle.record.specs.declared.Record.{Record}
 use Rattle.row.specs.declared.Row.{Row}
@@ -34,43 +35,45 @@ secondOf o s = record { owner = o; bytes = s }
 
 -- ---- after a past
 
--- "a fresh book: no second accepted, all setpoints and limits 0, every signal resting, no leftover, the kept sums 0"
-unfoldable pub fresh : Book
-fresh = record { unit = plant.stateOf [] []; a = plant.stateOf [] []; b = plant.stateOf [] []; sums = noSums }
+-- "a fresh book: no second accepted, all setpoints and limits 0, every signal resting, no leftover, the kept sums 0"; "a sheet handed over with a fresh
+-- book" (02, W9)
+unfoldable pub fresh : Sheet → Book
+fresh sh = record { sheet = sh; unit = plant.stateOf sh [] []; a = plant.stateOf sh [] []; b = plant.stateOf sh [] []; sums = noSums }
 
--- after the closed books c and the seconds h: each plant's state is the one that its own accepted seconds leave, and the kept sums are the four
-unfoldable pub stateOf : Closed → History → Book
-stateOf c h =
+-- under the sheet sh, after the closed books c and the seconds h: each plant's state is the one that its own accepted seconds leave, and the kept sums are the four
+unfoldable pub stateOf : Sheet → Closed → History → Book
+stateOf sh c h =
     record {
-      unit = plant.stateOf (closedOf unitBytes c) (pastOf unitBytes h);
-      a = plant.stateOf (closedOf aBytes c) (pastOf aBytes h);
-      b = plant.stateOf (closedOf bBytes c) (pastOf bBytes h);
-      sums = sumsOf c h;
+      sheet = sh;
+      unit = plant.stateOf sh (closedOf unitBytes c) (pastOf unitBytes h);
+      a = plant.stateOf sh (closedOf aBytes c) (pastOf aBytes h);
+      b = plant.stateOf sh (closedOf bBytes c) (pastOf bBytes h);
+      sums = sumsOf sh c h;
     }
 
 -- the step r of second s after the accepted seconds h: its answer is the one over them, and its book the one that they and, unless it is
 -- refused, this second leave
-pub record OverPast (c : Closed) (h : History) (s : BookSecond) (r : BookStep) : Type 0 where
-  pub said : says (r .answer) ≡ saidAt c h s
+pub record OverPast (sh : Sheet) (c : Closed) (h : History) (s : BookSecond) (r : BookStep) : Type 0 where
+  pub said : says (r .answer) ≡ saidAt sh c h s
   pub number : numberIn (r .answer) ≡ numberAt c h s
-  pub answer : r .answer ≡ answerAt c h s
-  pub book : r .book ≡ stateOf c (grown c h s)
+  pub answer : r .answer ≡ answerAt sh c h s
+  pub book : r .book ≡ stateOf sh c (grown c h s)
   pub stays : Accepted c (grown c h s)
 
 -- ---- any book: what each plant answers
 
 unfoldable pub unitIn : Book → BookSecond → PlantStep
-unitIn k s = plant.stepIn (k .unit) (unitBytes (s .bytes)) (pos 0) (pos 0)
+unitIn k s = plant.stepIn (k .sheet) (k .unit) (unitBytes (s .bytes)) (pos 0) (pos 0)
 
--- a pool at the state st, where u is the unit's row
-unfoldable pub poolIn : Pool → PlantState → BookSecond → Row → PlantStep
-poolIn p st s u = plant.stepIn st (p .bytes (s .bytes)) (addedTo p s u) (unitPoint (s .bytes))
+-- a pool at the state st under the sheet sh, where u is the unit's row
+unfoldable pub poolIn : Sheet → Pool → PlantState → BookSecond → Row → PlantStep
+poolIn sh p st s u = plant.stepIn sh st (p .bytes (s .bytes)) (addedTo p s u) (unitPoint (s .bytes))
 
 abbrev pub aIn : Book → BookSecond → Row → PlantStep
-aIn k s u = poolIn poolA (k .a) s u
+aIn k s u = poolIn (k .sheet) poolA (k .a) s u
 
 abbrev pub bIn : Book → BookSecond → Row → PlantStep
-bIn k s u = poolIn poolB (k .b) s u
+bIn k s u = poolIn (k .sheet) poolB (k .b) s u
 
 -- ---- any book: the kept sums
 
@@ -100,6 +103,7 @@ acceptedIn k s u a b =
       answer = Rows u a b;
       book =
           record {
+            sheet = k .sheet;
             unit = unitIn k s .state;
             a = aIn k s u .state;
             b = bIn k s u .state;
@@ -139,16 +143,16 @@ pub record SumsReady (n : ℕ) (q : Sums) : Type 0 where
 
 -- the unit's count is the book's
 pub record Ready (k : Book) : Type 0 where
-  pub unit : plant.Ready (k .unit)
-  pub a : plant.Ready (k .a)
-  pub b : plant.Ready (k .b)
+  pub unit : plant.Ready (k .sheet) (k .unit)
+  pub a : plant.Ready (k .sheet) (k .a)
+  pub b : plant.Ready (k .sheet) (k .b)
   pub sums : SumsReady (k .unit .seconds) (k .sums)
 
 -- the book second's contract, for every book that it may be given
 pub record Stepped (k : Book) (s : BookSecond) (r : BookStep) : Type 0 where
   pub is : r ≡ stepIn k s
   -- where accepted seconds left the book: 01's figures or number over them, and the book that the longer list leaves
-  pub past : (c : Closed) (h : History) → Accepted c h → k ≡ stateOf c h → OverPast c h s r
+  pub past : (sh : Sheet) (c : Closed) (h : History) → Accepted c h → k ≡ stateOf sh c h → OverPast sh c h s r
   -- what callers need to go on
   pub ready : Ready (r .book)
 
@@ -177,14 +181,14 @@ pub record Summed (u a b : Row) (d : ℤ) : Type 0 where
   pub due-small : Within mostInSecond d
 
 -- the record of a plant in an accepted second
-pub record InRange (x : Record) : Type 0 where
+pub record PowersInRange (x : Record) : Type 0 where
   pub measured : Within mostPower (x .measured .0)
   pub working-point : Within mostPower (x .«working_point» .0)
 
 -- a plant's 36 bytes in an accepted second
 pub record Readable (s : List ℕ) : Type 0 where
   pub whole : length s ≡ size
-  pub range : InRange (recordOf s)
+  pub range : PowersInRange (recordOf s)
 
 -- the plants' bytes, where s is the book second
 pub record PartsOf (s u a b : List ℕ) : Type 0 where

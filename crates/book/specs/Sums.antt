@@ -2,6 +2,7 @@
 -- closed ones c.
 use mathlib.Core.List.{[], _∷_}
 use lib.IntN.{ℤ, pos, _+ℤ_}
+use Rattle.sheet.specs.declared.Sheet.{Sheet}
 use Rattle.row.specs.declared.Row.{Row}
 use Rattle.row.specs.declared.sums.KwSeconds.{KwSeconds}
 use Rattle.row.specs.declared.sums.Sums.{Sums}
@@ -20,14 +21,14 @@ sumOver f [] = pos 0
 sumOver f (s ∷ h) = sumOver f h +ℤ f h s
 
 -- "A adds the actuals of all kinds in A's row, B those in B's row, open the open of every plant's row."
-abbrev pub sumA : Closed → History → ℤ
-sumA c h = sumOver (λ p s. actualsOf (aRowAt c p s)) h
+abbrev pub sumA : Sheet → Closed → History → ℤ
+sumA sh c h = sumOver (λ p s. actualsOf (aRowAt sh c p s)) h
 
-abbrev pub sumB : Closed → History → ℤ
-sumB c h = sumOver (λ p s. actualsOf (bRowAt c p s)) h
+abbrev pub sumB : Sheet → Closed → History → ℤ
+sumB sh c h = sumOver (λ p s. actualsOf (bRowAt sh c p s)) h
 
-abbrev pub sumOpen : Closed → History → ℤ
-sumOpen c h = sumOver (λ p s. openOf (unitRowAt c p s) (aRowAt c p s) (bRowAt c p s)) h
+abbrev pub sumOpen : Sheet → Closed → History → ℤ
+sumOpen sh c h = sumOver (λ p s. openOf (unitRowAt sh c p s) (aRowAt sh c p s) (bRowAt sh c p s)) h
 
 -- "Due is read from the bytes of these book seconds"
 abbrev pub sumDue : History → ℤ
@@ -37,9 +38,9 @@ sumDue h = sumOver (λ p s. dueOf (s .bytes)) h
 abbrev pub kwSeconds : ℤ → KwSeconds
 kwSeconds n = record { 0 = n }
 
-unfoldable pub sumsOf : Closed → History → Sums
-sumsOf c h =
-    record { a = kwSeconds (sumA c h); b = kwSeconds (sumB c h); «open» = kwSeconds (sumOpen c h); due = kwSeconds (sumDue h) }
+unfoldable pub sumsOf : Sheet → Closed → History → Sums
+sumsOf sh c h =
+    record { a = kwSeconds (sumA sh c h); b = kwSeconds (sumB sh c h); «open» = kwSeconds (sumOpen sh c h); due = kwSeconds (sumDue h) }
 
 -- "the kept sums 0"
 abbrev pub noSums : Sums

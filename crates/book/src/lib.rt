@@ -11,6 +11,8 @@ use power::Kw;
 use row::KwSeconds;
 use row::Row;
 use row::Sums;
+use sheet::Sheet;
+use sheet::default_sheet;
 use sums::due_in;
 use sums::with_second;
 use unit::added_to;
@@ -20,10 +22,12 @@ ghost use Prim.Native.Nat.{_%_};
 ghost use lib.Dec.{eqb};
 ghost use lib.ListN.{length};
 ghost use Rattle.mfrr.specs.Signal.{quarterHour};
+ghost use Rattle.sheet.specs.Sheet.{InRange};
 ghost use Rattle.record.specs.Record.{size};
 ghost use Rattle.book.specs.Refusals.{formNumber};
 ghost use Rattle.book.specs.Sums.{noSums};
 ghost use Rattle.book.specs.HandOver.{Opening, HandedOver};
+ghost use Rattle.book.specs.Open.{OpenedUnder};
 ghost use Rattle.book.specs.State.{secondOf, fresh, refusedBy, Ready, PlantsStepped, Stepped};
 
 // The plants of a book.
@@ -33,8 +37,9 @@ pub enum Plant {
     B,
 }
 
-// The states of the three plants, and the kept sums.
+// The sheet, the states of the three plants, and the kept sums.
 pub struct Book {
+    pub sheet: Sheet,
     pub unit: PlantState,
     pub a: PlantState,
     pub b: PlantState,
@@ -53,15 +58,21 @@ pub struct BookStep {
     pub book: Book,
 }
 
-// The next book opens, or the refusal number.
-pub enum HandOverAnswer {
+// The book opens, or the refusal number.
+pub enum OpenAnswer {
     Opened,
     Refused(u8),
 }
 
 // What a handover gives: the next book, or the closing one as it was.
 pub struct HandOver {
-    pub answer: HandOverAnswer,
+    pub answer: OpenAnswer,
+    pub book: Book,
+}
+
+// What opening gives: a fresh book under the sheet; beside a refusal one under the default sheet, which nobody asked for.
+pub struct BookOpening {
+    pub answer: OpenAnswer,
     pub book: Book,
 }
 
@@ -104,11 +115,30 @@ fn no_sums() -> Sums
 }
 
 impl Book {
-    // A fresh book.
-    pub fn new() -> Self
-        ensures { λ r. ⌜ (r ≡ fresh) × Ready r ⌝ }
+    // A fresh book under a sheet of any figures, or 30.
+    pub fn open(sheet: Sheet) -> BookOpening
+        ensures { λ r. ⌜ OpenedUnder sheet r ⌝ }
+    {
+        let number = sheet.number();
+        if number != 0 {
+            return BookOpening {
+                answer: OpenAnswer::Refused(number),
+                book: Book::new(default_sheet()),
+            };
+        }
+        BookOpening {
+            answer: OpenAnswer::Opened,
+            book: Book::new(sheet),
+        }
+    }
+
+    // A fresh book under a sheet whose figures are in range.
+    pub fn new(sheet: Sheet) -> Self
+        requires { ⌜ InRange sheet ⌝ }
+        ensures { λ r. ⌜ (r ≡ fresh sheet) × Ready r ⌝ }
     {
         Book {
+            sheet,
             unit: PlantState::new(),
             a: PlantState::new(),
             b: PlantState::new(),
@@ -122,7 +152,9 @@ impl Book {
         ensures { λ r. ⌜ Opening self sums r ⌝ }
     {
         let kept = sums;
+        let sheet = self.sheet;
         Book {
+            sheet,
             unit: self.unit.handed_over(),
             a: self.a.handed_over(),
             b: self.b.handed_over(),
@@ -138,12 +170,12 @@ impl Book {
     {
         if !is_whole(self.unit.seconds) {
             return HandOver {
-                answer: HandOverAnswer::Refused(29),
+                answer: OpenAnswer::Refused(29),
                 book: self,
             };
         }
         HandOver {
-            answer: HandOverAnswer::Opened,
+            answer: OpenAnswer::Opened,
             book: self.opening(no_sums()),
         }
     }
@@ -180,7 +212,8 @@ impl Book {
         requires { ⌜ Ready self × (length (now unit) ≡ size) × (length (now a) ≡ size) × (length (now b) ≡ size) ⌝ }
         ensures { λ r. ⌜ PlantsStepped self owner (now (unit .entry)) (now (a .entry)) (now (b .entry)) r ⌝ }
     {
-        let unit_step = self.unit.second_with(unit, Kw(0), Kw(0));
+        let sheet = self.sheet;
+        let unit_step = self.unit.second_with(sheet, unit, Kw(0), Kw(0));
         let unit_answer = unit_step.answer;
         let PlantAnswer::Row(unit_row) = unit_answer else {
             return self.refused_by(Plant::U, number_in(unit_answer));
@@ -189,13 +222,13 @@ impl Book {
         let point = unit_record.working_point;
         let sold = record::kind_bits(owner);
         let a_step = self.a
-            .second_with(a, added_to(point, others(sold), unit_row), point);
+            .second_with(sheet, a, added_to(point, others(sold), unit_row), point);
         let a_answer = a_step.answer;
         let PlantAnswer::Row(a_row) = a_answer else {
             return self.refused_by(Plant::A, number_in(a_answer));
         };
         let b_step = self.b
-            .second_with(b, added_to(point, sold, unit_row), point);
+            .second_with(sheet, b, added_to(point, sold, unit_row), point);
         let b_answer = b_step.answer;
         let PlantAnswer::Row(b_row) = b_answer else {
             return self.refused_by(Plant::B, number_in(b_answer));
@@ -206,6 +239,7 @@ impl Book {
         BookStep {
             answer: rows(unit_row, a_row, b_row),
             book: Book {
+                sheet,
                 unit: next_unit,
                 a: next_a,
                 b: next_b,

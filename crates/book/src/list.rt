@@ -3,6 +3,7 @@ use crate::Book;
 ghost use mathlib.Core.Path.{_≡_};
 ghost use Prim.Native.Nat.{_+_, _-_, _<_, min};
 ghost use lib.ListN.{length, getD};
+ghost use Rattle.book.specs.State.{Ready};
 ghost use Rattle.book.specs.List.{listedIn, ListRan};
 
 // Where a second's bytes start: past its owner byte and its length byte, or at the end of the list.
@@ -26,18 +27,19 @@ fn part_end(list: &[u8], at: usize) -> usize
     if k < n - at - 2 { at + 2 + k } else { n }
 }
 
-// Runs a list of book seconds from a fresh book to its end, refused ones included. In the slice each second has an owner byte, a byte that says
+// Runs a list of book seconds from a book to its end, refused ones included. In the slice each second has an owner byte, a byte that says
 // how many bytes follow, 0 to 255, and those bytes: 108 of them in a second of the right length. The last one may be cut short.
-pub fn run(list: &[u8]) -> Book
-    ensures { λ r. ⌜ ListRan (listedIn (now (list .entry))) r ⌝ }
+pub fn run(from: Book, list: &[u8]) -> Book
+    requires { ⌜ Ready from ⌝ }
+    ensures { λ r. ⌜ ListRan from (listedIn (now (list .entry))) r ⌝ }
 {
-    let mut book = Book::new();
+    let mut book = from;
     let mut at: usize = 0;
     while at < list.len() {
         let owner = list[at];
-        let from = part_start(at, list.len());
+        let start = part_start(at, list.len());
         let end = part_end(list, at);
-        let step = book.second(owner, &list[from..end]);
+        let step = book.second(owner, &list[start..end]);
         book = step.book;
         at = end;
     }

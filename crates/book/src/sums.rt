@@ -10,7 +10,7 @@ ghost use Rattle.record.specs.Record.{mostSeconds};
 ghost use Rattle.sharing.specs.Sizes.{SizedRow};
 ghost use Rattle.book.specs.Seconds.{difference, dueFrom};
 ghost use Rattle.book.specs.Sums.{actualsOf, openOf};
-ghost use Rattle.book.specs.State.{mostSummand, mostAtUnit, mostAtPool, sumsWith, InRange, Readable, SumsReady, Summed};
+ghost use Rattle.book.specs.State.{mostSummand, mostAtUnit, mostAtPool, sumsWith, PowersInRange, Readable, SumsReady, Summed};
 
 // The sum of three powers of a second.
 pub(crate) fn sum_of(x: Kw, y: Kw, z: Kw) -> Kw
@@ -38,7 +38,7 @@ fn open_of(u: Row, a: Row, b: Row) -> Kw
 
 // Measured - working point of a record.
 fn difference(x: Record) -> Kw
-    requires { ⌜ InRange x ⌝ }
+    requires { ⌜ PowersInRange x ⌝ }
     ensures { λ v. ⌜ (v .0 ≡ difference x) × Within mostAtUnit (v .0) ⌝ }
 {
     let measured = x.measured;

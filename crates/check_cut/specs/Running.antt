@@ -3,6 +3,7 @@ use mathlib.Core.Path.{_≡_}
 use Prim.Native.Nat.{ℕ, zero, suc, _≤_}
 use mathlib.Core.Bool.{false}
 use mathlib.Core.List.{List}
+use Rattle.sheet.specs.Sheet.{defaultSheet}
 use Rattle.record.specs.Record.{mostSeconds}
 use Rattle.book.specs.State.{fresh}
 use Rattle.tally.specs.Tally as tally
@@ -27,7 +28,7 @@ pub record Opens (s : List ℕ) (r : Opening) : Type 0 where
 
 -- before the first second
 abbrev pub startBy : Verdict → Cut
-startBy v = record { run = record { book = fresh; tally = tally.zero; used = 0; verdict = v }; handed = false }
+startBy v = record { run = record { book = fresh defaultSheet; tally = tally.zero; used = 0; verdict = v }; handed = false }
 
 -- between two blocks no text waits
 pub record Between (r : Cut) : Type 0 where

@@ -1,5 +1,5 @@
 // For the gate alone (02, W7): reads a count of 4 bytes, the lowest first, and a book; prints the book's rows, handed over before that second is
-// judged, and the sum line of each part. What is printed is `cutPrinted` of crate `cut`. A read or write that fails ends it.
+// judged, and the sum line of each part, under the default sheet. What is printed is `cutPrinted` of crate `cut`. A read or write that fails ends it.
 use block::Header;
 use book::Book;
 use cut_run::Cut;
@@ -10,6 +10,7 @@ use report::Plan;
 use report::Run;
 use report::TextLine;
 use report::Verdict;
+use sheet::default_sheet;
 use tally::Tally;
 ghost use mathlib.Core.Path.{_≡_};
 ghost use mathlib.Core.Bool.{true};
@@ -68,7 +69,7 @@ fn start(verdict: Verdict) -> Cut
 {
     Cut {
         run: Run {
-            book: Book::new(),
+            book: Book::new(default_sheet()),
             tally: Tally::new(),
             used: 0,
             verdict,

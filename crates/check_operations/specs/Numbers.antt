@@ -4,6 +4,7 @@ use Prim.Native.Nat.{ℕ, _+_}
 use mathlib.Core.List.{List}
 use lib.IntN.{pos}
 use lib.ListN.{replicate, set}
+use Rattle.sheet.specs.declared.Sheet.{Sheet}
 use Rattle.row.specs.declared.sums.Sums.{Sums}
 use Rattle.plant.specs.declared.PlantState.{PlantState}
 use Rattle.plant.specs.Rows as plant-rows
@@ -21,12 +22,12 @@ use Rattle.line.specs.Line.{sumText}
 use Rattle.line.specs.Lined.{answerOf}
 
 -- the plant second of bytes s
-abbrev pub plantNumber : PlantState → List ℕ → ℕ
-plantNumber st s = plant-rows.numberIn (plant.stepIn st s (pos 0) (pos 0) .answer)
+abbrev pub plantNumber : Sheet → PlantState → List ℕ → ℕ
+plantNumber sh st s = plant-rows.numberIn (plant.stepIn sh st s (pos 0) (pos 0) .answer)
 
 -- the book second of bytes s at a fresh book
-abbrev pub bookNumber : ℕ → List ℕ → ℕ
-bookNumber owner s = book-rows.numberIn (book.stepIn book.fresh (book.secondOf owner s) .answer)
+abbrev pub bookNumber : Sheet → ℕ → List ℕ → ℕ
+bookNumber sh owner s = book-rows.numberIn (book.stepIn (book.fresh sh) (book.secondOf owner s) .answer)
 
 abbrev pub lineNumberIn : Answer → ℕ
 lineNumberIn (Length n) = 0

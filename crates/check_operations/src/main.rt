@@ -11,8 +11,11 @@ use line::sum_line;
 use plant::PlantState;
 use row::KwSeconds;
 use row::Sums;
+use sheet::Sheet;
+use sheet::default_sheet;
 ghost use mathlib.Core.Path.{_≡_};
 ghost use Prim.Native.Nat.{_<_};
+ghost use Rattle.sheet.specs.Sheet.{InRange};
 ghost use Rattle.plant.specs.State.{Ready};
 ghost use Rattle.book.specs.Rows.{numberIn};
 ghost use Rattle.block.specs.Block.{blockSays};
@@ -22,24 +25,25 @@ ghost use Rattle.check_operations.specs.Numbers.{plantNumber, bookNumber
 const SECONDS: u32 = block::PER_BLOCK as u32;
 
 // A plant after that many seconds of 0 alone: no kind is on, so each is accepted while a book may be longer.
-fn after_blank(seconds: u32) -> PlantState
-    ensures { λ r. ⌜ Ready r ⌝ }
+fn after_blank(sheet: Sheet, seconds: u32) -> PlantState
+    requires { ⌜ InRange sheet ⌝ }
+    ensures { λ r. ⌜ Ready sheet r ⌝ }
 {
     let blank = [0u8; record::SIZE];
     let mut state = PlantState::new();
     for t in 0..seconds {
-        let step = state.second(&blank);
+        let step = state.second(sheet, &blank);
         state = step.state;
     }
     state
 }
 
 // The number that the plant second answers, 0 with a row.
-fn plant_number(state: PlantState, bytes: &[u8]) -> u8
-    requires { ⌜ Ready state ⌝ }
-    ensures { λ r. ⌜ r ≡ plantNumber state (now (bytes .entry)) ⌝ }
+fn plant_number(sheet: Sheet, state: PlantState, bytes: &[u8]) -> u8
+    requires { ⌜ Ready sheet state ⌝ }
+    ensures { λ r. ⌜ r ≡ plantNumber sheet state (now (bytes .entry)) ⌝ }
 {
-    let step = state.second(bytes);
+    let step = state.second(sheet, bytes);
     let answer = step.answer;
     plant::number_in(answer)
 }
@@ -60,10 +64,11 @@ fn book_number_in(answer: BookAnswer) -> u8
 }
 
 // The number that the book second answers at a fresh book.
-fn book_number(owner: u8, bytes: &[u8]) -> u8
-    ensures { λ r. ⌜ r ≡ bookNumber owner (now (bytes .entry)) ⌝ }
+fn book_number(sheet: Sheet, owner: u8, bytes: &[u8]) -> u8
+    requires { ⌜ InRange sheet ⌝ }
+    ensures { λ r. ⌜ r ≡ bookNumber sheet owner (now (bytes .entry)) ⌝ }
 {
-    let step = Book::new().second(owner, bytes);
+    let step = Book::new(sheet).second(owner, bytes);
     let answer = step.answer;
     book_number_in(answer)
 }
@@ -133,15 +138,19 @@ fn report(what: &[u8], number: u8) {
 
 fn plant_after_all() {
     let record = [0u8; record::SIZE];
+    let sheet = default_sheet();
     report(
         b"plant-second-90001",
-        plant_number(after_blank(record::MOST_SECONDS), &record),
+        plant_number(sheet, after_blank(sheet, record::MOST_SECONDS), &record),
     );
 }
 
 fn owner_8() {
     let second = [0u8; record::BOOK_SIZE];
-    report(b"book-second-owner-8", book_number(8, &second));
+    report(
+        b"book-second-owner-8",
+        book_number(default_sheet(), 8, &second),
+    );
 }
 
 fn buffer_199() {
@@ -160,13 +169,16 @@ fn plant_short() {
     let record = [0u8; 35];
     report(
         b"plant-second-35-bytes",
-        plant_number(PlantState::new(), &record),
+        plant_number(default_sheet(), PlantState::new(), &record),
     );
 }
 
 fn book_short() {
     let second = [0u8; 107];
-    report(b"book-second-107-bytes", book_number(0, &second));
+    report(
+        b"book-second-107-bytes",
+        book_number(default_sheet(), 0, &second),
+    );
 }
 
 fn main() {

@@ -1,5 +1,6 @@
-// The values to hold of FCR and aFRR in document 01, "Values to hold", by stepping their states.
+// The values to hold of FCR and aFRR in document 01, "Values to hold", by stepping their states under document 01's figures.
 ghost use mathlib.Core.Path.{_≡_};
+ghost use Rattle.sheet.specs.Sheet.{firstSheet, InRange};
 ghost use Rattle.fcr.specs.Values.{fallTolerance};
 ghost use Rattle.afrr.specs.Values.{lowerAt};
 use afrr::AfrrState;
@@ -7,17 +8,33 @@ use afrr::Second;
 use fcr::FcrState;
 use libc::STDOUT_FILENO;
 use power::Kw;
+use sheet::Sheet;
+
+// Document 01's figures: the default sheet with its least range of 5,000 kW.
+fn first_sheet() -> Sheet
+    ensures { λ r. ⌜ (r ≡ firstSheet) × InRange r ⌝ }
+{
+    Sheet {
+        fcr_floor: 5,
+        afrr_floor: 5,
+        excess: 20,
+        least_range: Kw(5000),
+        fcr_reaction: 15,
+        afrr_reaction: 30,
+    }
+}
 
 // FCR held 400, one fall 0 to -100 at the given age: the upper tolerance.
 fn fall_tolerance(age: u64) -> Kw
     ensures { λ r. ⌜ r .0 ≡ fallTolerance age ⌝ }
 {
+    let sheet = first_sheet();
     let held = Kw(400);
     let s = Kw(-100);
-    let mut step = FcrState::new().step(s, held);
+    let mut step = FcrState::new().step(sheet, s, held);
     for a in 0..age {
         let state = step.state;
-        step = state.step(s, held);
+        step = state.step(sheet, s, held);
     }
     let band = step.band;
     let high = band.high;
@@ -26,17 +43,18 @@ fn fall_tolerance(age: u64) -> Kw
 
 // aFRR held up 10,000, setpoint 10,000 from second 0: the lower limit at the given second.
 fn lower_limit(second: u64) -> Kw
-    ensures { λ r. ⌜ r .0 ≡ lowerAt second ⌝ }
+    ensures { λ r. ⌜ r .0 ≡ lowerAt firstSheet second ⌝ }
 {
+    let sheet = first_sheet();
     let x = Second {
         setpoint: Kw(10000),
         up: Kw(10000),
         down: Kw(0),
     };
-    let mut step = AfrrState::new().step(x);
+    let mut step = AfrrState::new().step(sheet, x);
     for t in 0..second {
         let state = step.state;
-        step = state.step(x);
+        step = state.step(sheet, x);
     }
     let band = step.band;
     band.low

@@ -5,6 +5,7 @@ use mathlib.Core.List.{List, []}
 use Prim.Native.Nat.{ℕ, zero, suc, _-_}
 use native.Mathlib.Omega.{arith}
 use lib.ListN.{take, drop}
+use Rattle.sheet.specs.Sheet.{defaultSheet}
 use Rattle.book.specs.declared.Book.{Book}
 use Rattle.book.specs.State.{fresh}
 use Rattle.book.proofs.Claims.{fresh-is, none-accepted}
@@ -24,17 +25,17 @@ use Rattle.cut.specs.Claims.{Claims}
 use Rattle.cut.proofs.Parts.{blocks}
 use Rattle.cut.proofs.Told.{last-is, in-first}
 
-begins : keep fresh tally.zero ≡ keptOf [] []
-begins = λ i. keep (sym fresh-is i) (sym (tally-none []) i)
+begins : keep (fresh defaultSheet) tally.zero ≡ keptOf defaultSheet [] []
+begins = λ i. keep (sym (fresh-is defaultSheet) i) (sym (tally-none defaultSheet []) i)
 
 from-header : (n at : ℕ) (head s : List ℕ) → toldBy n at head s ≡ cutPrintedBy n at head s
 from-header zero at head s =
     let h = blocksOf (secondsOf head) s in
     let all : at - 0 ≡ at = omega arith in
     ap (λ (k : Kept). blocksTold (planOf head) at 1 (lastBlock (secondsOf head)) k false s) begins
-    ∙ blocks (planOf head) at (lastBlock (secondsOf head)) 1 (keptOf [] []) false s
+    ∙ blocks (planOf head) at (lastBlock (secondsOf head)) 1 (keptOf defaultSheet [] []) false s
     ∙ rw all at (in-first (ownerOf head) (secondsOf head) at (h .seconds) [] (h .number) none-accepted (omega arith))
-from-header (suc n) at head s = ap (λ (k : Book). lastBy (verdict.Refused (suc n)) k) (sym fresh-is) ∙ last-is [] [] (suc n)
+from-header (suc n) at head s = ap (λ (k : Book). lastBy (verdict.Refused (suc n)) k) (sym (fresh-is defaultSheet)) ∙ last-is [] [] (suc n)
 
 any-input : (s : List ℕ) → told s ≡ cutPrinted s
 unfolding told cutPrinted

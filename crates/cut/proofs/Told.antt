@@ -7,6 +7,8 @@ use native.Mathlib.Omega.{arith}
 use lib.Dec.{eqb}
 use lib.ListN.{length, take, drop}
 use borrow.Author.Tests.{eq-eqb, ne-eqb, eqb-true, eqb-false}
+use Rattle.sheet.specs.Sheet.{defaultSheet}
+use Rattle.sheet.proofs.Ranges.{default-in-range}
 use Rattle.book.specs.Seconds.{BookSecond, History, Closed}
 use Rattle.book.specs.Refusals.{numberAt, Accepted}
 use Rattle.book.specs.Rows.{unitRowAt, aRowAt, bRowAt}
@@ -33,10 +35,10 @@ use Rattle.cut.proofs.Parts.{afterText, ends, ends-after}
 
 -- ---- the last line
 
-pub last-is : (c : Closed) (h : History) (m : ℕ) → lastBy (verdictOf m) (stateOf c h) ≡ lastText m c h
+pub last-is : (c : Closed) (h : History) (m : ℕ) → lastBy (verdictOf m) (stateOf defaultSheet c h) ≡ lastText defaultSheet m c h
 unfolding stateOf
 last-is c h zero = refl
-last-is c h (suc n) = rw (counted c h)
+last-is c h (suc n) = rw (counted defaultSheet c h)
 
 -- ---- with text before it
 
@@ -101,21 +103,21 @@ module _ (o t at : ℕ) where
   abbrev moved : List (List ℕ) → List BookSecond
   moved ss = bookSeconds o (map (bytesBack at) ss)
 
-  pub in-next : (ss : List (List ℕ)) (c : Closed) (h : History) (m : ℕ) → Accepted c h → told (keptOf c h) true ss m ≡ bookText c (judged Figures c h (moved ss)) m
+  pub in-next : (ss : List (List ℕ)) (c : Closed) (h : History) (m : ℕ) → Accepted c h → told (keptOf defaultSheet c h) true ss m ≡ bookText c (judged defaultSheet Figures c h (moved ss)) m
   unfolding judged Accepted
-  in-next [] c h m a = none-left (keptOf c h) true m ∙ last-is c h m
+  in-next [] c h m a = none-left (keptOf defaultSheet c h) true m ∙ last-is c h m
   in-next (s ∷ ss) c h m a = go (numberAt c h (later s)) refl (λ e. in-next ss c ((later s) ∷ h) m (e, a))
     where
-      go : (n : ℕ) → numberAt c h (later s) ≡ n → (numberAt c h (later s) ≡ 0 → told (keptOf c ((later s) ∷ h)) true ss m ≡ bookText c (judged Figures c ((later s) ∷ h) (moved ss)) m) → told (keptOf c h) true (s ∷ ss) m ≡ bookText c (judgedBy n Figures c h (later s) (judged Figures c ((later s) ∷ h) (moved ss))) m
+      go : (n : ℕ) → numberAt c h (later s) ≡ n → (numberAt c h (later s) ≡ 0 → told (keptOf defaultSheet c ((later s) ∷ h)) true ss m ≡ bookText c (judged defaultSheet Figures c ((later s) ∷ h) (moved ss)) m) → told (keptOf defaultSheet c h) true (s ∷ ss) m ≡ bookText c (judgedBy defaultSheet n Figures c h (later s) (judged defaultSheet Figures c ((later s) ∷ h) (moved ss))) m
       go zero e others =
-          let lines = linesOf Figures (length h) (unitRowAt c h (later s)) (aRowAt c h (later s)) (bRowAt c h (later s)) in
-          one-taken (keptOf c h) (keptOf c ((later s) ∷ h)) true s ss m lines
-          (next-second (keptOf c h) s ∙ ap (λ (r : Ran). record { ran = r; handed = true }) (taken plan c h (bytesBack at s) a e))
+          let lines = linesOf Figures (length h) (unitRowAt defaultSheet c h (later s)) (aRowAt defaultSheet c h (later s)) (bRowAt defaultSheet c h (later s)) in
+          one-taken (keptOf defaultSheet c h) (keptOf defaultSheet c ((later s) ∷ h)) true s ss m lines
+          (next-second (keptOf defaultSheet c h) s ∙ ap (λ (r : Ran). record { ran = r; handed = true }) (taken defaultSheet default-in-range plan c h (bytesBack at s) a e))
           ∙ ap (λ (l : List ℕ). lines ++ l) (others e)
-          ∙ book-after c lines (judged Figures c ((later s) ∷ h) (moved ss)) m
+          ∙ book-after c lines (judged defaultSheet Figures c ((later s) ∷ h) (moved ss)) m
       go (suc n) e others =
-          one-refused (keptOf c h) true s ss m (suc n)
-          (next-second (keptOf c h) s ∙ ap (λ (r : Ran). record { ran = r; handed = true }) (refused plan c h (bytesBack at s) a e))
+          one-refused (keptOf defaultSheet c h) true s ss m (suc n)
+          (next-second (keptOf defaultSheet c h) s ∙ ap (λ (r : Ran). record { ran = r; handed = true }) (refused defaultSheet default-in-range plan c h (bytesBack at s) a e))
           ∙ last-is c h (suc n)
 
   -- ---- the handover
@@ -141,62 +143,62 @@ module _ (o t at : ℕ) where
   refused-before k s ss m n text e = rw e
 
   module _ (h : History) (a : Accepted [] h) where
-    before-is : length h ≡ at → beforeIn at (keptOf [] h) false ≡ openedBy (handOverNumber (length h)) (keptOf [] h)
+    before-is : length h ≡ at → beforeIn at (keptOf defaultSheet [] h) false ≡ openedBy (handOverNumber (length h)) (keptOf defaultSheet [] h)
     unfolding beforeIn handedIn
-    before-is e = rw (counted [] h, eq-eqb (length h) at e)
+    before-is e = rw (counted defaultSheet [] h, eq-eqb (length h) at e)
 
-    opened-kept : openedBy 0 (keptOf [] h) ≡ record { ran = record { text = sumText (stateOf [] h .sums); kept = keptOf (h ∷ []) []; verdict = verdict.Accepted }; handed = true }
-    opened-kept = λ i. record { ran = record { text = sumText (stateOf [] h .sums); kept = keep (handed [] h i) (sym (tally-none (h ∷ [])) i); verdict = verdict.Accepted }; handed = true }
+    opened-kept : openedBy 0 (keptOf defaultSheet [] h) ≡ record { ran = record { text = sumText (stateOf defaultSheet [] h .sums); kept = keptOf defaultSheet (h ∷ []) []; verdict = verdict.Accepted }; handed = true }
+    opened-kept = λ i. record { ran = record { text = sumText (stateOf defaultSheet [] h .sums); kept = keep (handed defaultSheet [] h i) (sym (tally-none defaultSheet (h ∷ [])) i); verdict = verdict.Accepted }; handed = true }
 
     opened-accepted : handOverNumber (length h) ≡ 0 → Accepted (h ∷ []) []
     unfolding closedHanded pastHanded
-    opened-accepted e = rw e at (next-accepted [] h a)
+    opened-accepted e = rw e at (next-accepted defaultSheet [] h a)
 
-    cut-here : (s : List ℕ) (ss : List (List ℕ)) (m : ℕ) → length h ≡ at → (n : ℕ) → handOverNumber (length h) ≡ n → told (keptOf [] h) false (s ∷ ss) m ≡ lastText 0 [] h ++ nextBy n o at h (s ∷ ss) m
+    cut-here : (s : List ℕ) (ss : List (List ℕ)) (m : ℕ) → length h ≡ at → (n : ℕ) → handOverNumber (length h) ≡ n → told (keptOf defaultSheet [] h) false (s ∷ ss) m ≡ lastText defaultSheet 0 [] h ++ nextBy n o at h (s ∷ ss) m
     cut-here s ss m e zero q =
-        sum-then (keptOf [] h) (keptOf (h ∷ []) []) s ss m (sumText (stateOf [] h .sums)) (before-is e ∙ ap (λ (n : ℕ). openedBy n (keptOf [] h)) q ∙ opened-kept)
+        sum-then (keptOf defaultSheet [] h) (keptOf defaultSheet (h ∷ []) []) s ss m (sumText (stateOf defaultSheet [] h .sums)) (before-is e ∙ ap (λ (n : ℕ). openedBy n (keptOf defaultSheet [] h)) q ∙ opened-kept)
         ∙ (λ i. last-is [] h 0 i ++ in-next (s ∷ ss) (h ∷ []) [] m (opened-accepted q) i)
     cut-here s ss m e (suc n) q =
-        refused-before (keptOf [] h) s ss m (suc n) (sumText (stateOf [] h .sums)) (before-is e ∙ ap (λ (n : ℕ). openedBy n (keptOf [] h)) q)
+        refused-before (keptOf defaultSheet [] h) s ss m (suc n) (sumText (stateOf defaultSheet [] h .sums)) (before-is e ∙ ap (λ (n : ℕ). openedBy n (keptOf defaultSheet [] h)) q)
         ∙ (λ i. last-is [] h 0 i ++ last-is [] h (suc n) i)
 
   -- ---- the first book
 
   -- cut after d more seconds
   abbrev cutFrom : ℕ → History → List (List ℕ) → ℕ → List ℕ
-  cutFrom d h ss m = cutBy (judged Figures [] h (bookSeconds o (take d ss)) .number) o at (judged Figures [] h (bookSeconds o (take d ss))) (drop d ss) m
+  cutFrom d h ss m = cutBy (judged defaultSheet Figures [] h (bookSeconds o (take d ss)) .number) o at (judged defaultSheet Figures [] h (bookSeconds o (take d ss))) (drop d ss) m
 
-  no-seconds : (d : ℕ) (h : History) (m : ℕ) → lastText m [] h ≡ cutFrom d h [] m
+  no-seconds : (d : ℕ) (h : History) (m : ℕ) → lastText defaultSheet m [] h ≡ cutFrom d h [] m
   unfolding judged
   no-seconds zero h m = refl
   no-seconds (suc d) h m = refl
 
-  cut-now : (h : History) (s : List ℕ) (ss : List (List ℕ)) (m : ℕ) → lastText 0 [] h ++ nextBy (handOverNumber (length h)) o at h (s ∷ ss) m ≡ cutFrom 0 h (s ∷ ss) m
+  cut-now : (h : History) (s : List ℕ) (ss : List (List ℕ)) (m : ℕ) → lastText defaultSheet 0 [] h ++ nextBy (handOverNumber (length h)) o at h (s ∷ ss) m ≡ cutFrom 0 h (s ∷ ss) m
   unfolding judged
   cut-now h s ss m = refl
 
-  more : (d : ℕ) (h : History) (s : List ℕ) (ss : List (List ℕ)) (m : ℕ) → Accepted [] h → (length h ≡ at → ⊥) → ((numberAt [] h (second s) ≡ 0) → told (keptOf [] (second s ∷ h)) false ss m ≡ cutFrom d (second s ∷ h) ss m) → (n : ℕ) → numberAt [] h (second s) ≡ n → told (keptOf [] h) false (s ∷ ss) m ≡ cutFrom (suc d) h (s ∷ ss) m
+  more : (d : ℕ) (h : History) (s : List ℕ) (ss : List (List ℕ)) (m : ℕ) → Accepted [] h → (length h ≡ at → ⊥) → ((numberAt [] h (second s) ≡ 0) → told (keptOf defaultSheet [] (second s ∷ h)) false ss m ≡ cutFrom d (second s ∷ h) ss m) → (n : ℕ) → numberAt [] h (second s) ≡ n → told (keptOf defaultSheet [] h) false (s ∷ ss) m ≡ cutFrom (suc d) h (s ∷ ss) m
   unfolding judged
   more d h s ss m a less others zero e =
-      let j = judged Figures [] (second s ∷ h) (bookSeconds o (take d ss)) in
-      let lines = linesOf Figures (length h) (unitRowAt [] h (second s)) (aRowAt [] h (second s)) (bRowAt [] h (second s)) in
-      one-taken (keptOf [] h) (keptOf [] (second s ∷ h)) false s ss m lines
-      (first-second (keptOf [] h) s (λ q. less (sym (counted [] h) ∙ q)) ∙ ap (λ (r : Ran). record { ran = r; handed = false }) (taken plan [] h s a e))
+      let j = judged defaultSheet Figures [] (second s ∷ h) (bookSeconds o (take d ss)) in
+      let lines = linesOf Figures (length h) (unitRowAt defaultSheet [] h (second s)) (aRowAt defaultSheet [] h (second s)) (bRowAt defaultSheet [] h (second s)) in
+      one-taken (keptOf defaultSheet [] h) (keptOf defaultSheet [] (second s ∷ h)) false s ss m lines
+      (first-second (keptOf defaultSheet [] h) s (λ q. less (sym (counted defaultSheet [] h) ∙ q)) ∙ ap (λ (r : Ran). record { ran = r; handed = false }) (taken defaultSheet default-in-range plan [] h s a e))
       ∙ ap (λ (l : List ℕ). lines ++ l) (others e)
       ∙ cut-after (j .number) o at lines j (drop d ss) m
       ∙ rw e
   more d h s ss m a less others (suc n) e =
-      one-refused (keptOf [] h) false s ss m (suc n)
-      (first-second (keptOf [] h) s (λ q. less (sym (counted [] h) ∙ q)) ∙ ap (λ (r : Ran). record { ran = r; handed = false }) (refused plan [] h s a e))
+      one-refused (keptOf defaultSheet [] h) false s ss m (suc n)
+      (first-second (keptOf defaultSheet [] h) s (λ q. less (sym (counted defaultSheet [] h) ∙ q)) ∙ ap (λ (r : Ran). record { ran = r; handed = false }) (refused defaultSheet default-in-range plan [] h s a e))
       ∙ last-is [] h (suc n)
       ∙ rw e
 
-  pub in-first : (ss : List (List ℕ)) (h : History) (m : ℕ) → Accepted [] h → length h ≤ at → told (keptOf [] h) false ss m ≡ cutFrom (at - length h) h ss m
+  pub in-first : (ss : List (List ℕ)) (h : History) (m : ℕ) → Accepted [] h → length h ≤ at → told (keptOf defaultSheet [] h) false ss m ≡ cutFrom (at - length h) h ss m
   unfolding Accepted
-  in-first [] h m a few = none-left (keptOf [] h) false m ∙ last-is [] h m ∙ no-seconds (at - length h) h m
+  in-first [] h m a few = none-left (keptOf defaultSheet [] h) false m ∙ last-is [] h m ∙ no-seconds (at - length h) h m
   in-first (s ∷ ss) h m a few = go (eqb (length h) at) refl (λ e less. in-first ss (second s ∷ h) m (e, a) less)
     where
-      go : (b : Bool) → eqb (length h) at ≡ b → (numberAt [] h (second s) ≡ 0 → length (second s ∷ h) ≤ at → told (keptOf [] (second s ∷ h)) false ss m ≡ cutFrom (at - length (second s ∷ h)) (second s ∷ h) ss m) → told (keptOf [] h) false (s ∷ ss) m ≡ cutFrom (at - length h) h (s ∷ ss) m
+      go : (b : Bool) → eqb (length h) at ≡ b → (numberAt [] h (second s) ≡ 0 → length (second s ∷ h) ≤ at → told (keptOf defaultSheet [] (second s ∷ h)) false ss m ≡ cutFrom (at - length (second s ∷ h)) (second s ∷ h) ss m) → told (keptOf defaultSheet [] h) false (s ∷ ss) m ≡ cutFrom (at - length h) h (s ∷ ss) m
       go true q others =
           let e = eqb-true (length h) at q in
           let d : at - length h ≡ 0 = omega (arith, e) in

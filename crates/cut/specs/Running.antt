@@ -5,6 +5,7 @@ use mathlib.Core.Bool.{Bool, true, false, cond}
 use mathlib.Core.List.{List, [], _∷_, _++_}
 use lib.Dec.{eqb}
 use lib.ListN.{take, drop}
+use Rattle.sheet.specs.Sheet.{defaultSheet}
 use Rattle.codec.specs.Little.{u32At}
 use Rattle.book.specs.Cut.{bytesBack}
 use Rattle.book.specs.HandOver.{handOverNumber, handedOver}
@@ -103,8 +104,8 @@ abbrev pub planOf : List ℕ → Plan
 planOf head = record { form = Figures; owner = ownerOf head; seconds = secondsOf head }
 
 abbrev pub toldBy : ℕ → ℕ → List ℕ → List ℕ → List ℕ
-toldBy zero at head s = blocksTold (planOf head) at 1 (lastBlock (secondsOf head)) (keep fresh tally.zero) false s
-toldBy (suc n) at head s = lastBy (Refused (suc n)) fresh
+toldBy zero at head s = blocksTold (planOf head) at 1 (lastBlock (secondsOf head)) (keep (fresh defaultSheet) tally.zero) false s
+toldBy (suc n) at head s = lastBy (Refused (suc n)) (fresh defaultSheet)
 
 -- the texts of the count, the header and the blocks, one after the other
 unfoldable pub told : List ℕ → List ℕ

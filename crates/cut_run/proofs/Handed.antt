@@ -10,8 +10,8 @@ use Rattle.codec.specs.Put.{Put}
 use Rattle.codec.proofs.Puts.{both, loosen, none}
 use Rattle.book.specs.declared.Book.{Book}
 use Rattle.book.specs.declared.HandOver.{HandOver}
-use Rattle.book.specs.declared.HandOverAnswer.the-variants as answer
-use Rattle.book.specs.HandOver.{handOverNumber, handedOver, handOverBy, handOverIn, HandedOver, handOverNumberIn}
+use Rattle.book.specs.declared.OpenAnswer.the-variants as answer
+use Rattle.book.specs.HandOver.{handOverNumber, handedOver, handOverBy, handOverIn, HandedOver, openNumberIn}
 use Rattle.tally.specs.declared.Tally.{Tally}
 use Rattle.tally.specs.Tally as tally
 use Rattle.tally.specs.Tally.{TallyWithin}
@@ -38,13 +38,13 @@ no-counts n = search arith depth 9
 opens : (k : Book) {r : HandOver} → HandedOver k r → r .answer ≡ answer.Opened → (handOverNumber (k .unit .seconds) ≡ 0) × (r .book ≡ handedOver k)
 unfolding handOverIn
 opens k f e =
-    let n : handOverNumber (k .unit .seconds) ≡ 0 = sym (f .number) ∙ ap handOverNumberIn e in
+    let n : handOverNumber (k .unit .seconds) ≡ 0 = sym (f .number) ∙ ap openNumberIn e in
     (n, ap (λ (h : HandOver). h .book) (f .is) ∙ rw n)
 
 -- a refusal has its number and leaves the book
 refuses-by : (k : Book) (m n : ℕ) → handOverBy m k .answer ≡ answer.Refused n → (m ≡ n) × (handOverBy m k .book ≡ k) × ((q : Kept) → q .book ≡ k → openedBy m q ≡ record { ran = record { text = sumText (q .book .sums); kept = q; verdict = Refused n }; handed = false })
 refuses-by k zero n e = let z : _≡_ {A = ℕ} 0 1 = cc in absurd (omega arith)
-refuses-by k (suc m) n e = let z : suc m ≡ n = ap handOverNumberIn e in (z, refl, λ q b. rw z)
+refuses-by k (suc m) n e = let z : suc m ≡ n = ap openNumberIn e in (z, refl, λ q b. rw z)
 
 module _ (k : Kept) {b e : List ℕ} {used n : ℕ} (ready : KeptReady k) (put : Put rowRoom b e used n (sumText (k .book .sums))) where
   pub opened : {r : HandOver} {q : Tally} → HandedOver (k .book) r → r .answer ≡ answer.Opened → q ≡ tally.zero → CutAdds rowRoom b e used (record { run = runOf (keep (r .book) q) n Accepted; handed = true }) (handedIn k)

@@ -1,7 +1,7 @@
 // The seconds of a book that is handed over once, before second `at` is judged (02, W7): up to there they are run as in every book, from there on
 // in the next book, with the delivery ends of their calls in its seconds.
 use block::Block;
-use book::HandOverAnswer;
+use book::OpenAnswer;
 use report::Plan;
 use report::Run;
 use report::TextLine;
@@ -73,7 +73,7 @@ fn hand_over(run: Run, out: &mut [u8]) -> Cut
     let book = next.book;
     let answer = next.answer;
     match answer {
-        HandOverAnswer::Opened => Cut {
+        OpenAnswer::Opened => Cut {
             run: Run {
                 book,
                 tally: Tally::new(),
@@ -82,7 +82,7 @@ fn hand_over(run: Run, out: &mut [u8]) -> Cut
             },
             handed: true,
         },
-        HandOverAnswer::Refused(number) => Cut {
+        OpenAnswer::Refused(number) => Cut {
             run: Run {
                 book,
                 tally,

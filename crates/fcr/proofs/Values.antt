@@ -2,13 +2,14 @@
 use mathlib.Core.Path.{refl}
 use Rattle.numbers.specs.Order.{maxZ}
 use Rattle.power.specs.Inward.{upperKw}
+use Rattle.sheet.specs.Sheet.{firstSheet, perKw}
 use Rattle.fcr.specs.Setpoint.{setpointOf}
 use Rattle.fcr.specs.Factor.{weightFactor}
 use Rattle.fcr.specs.Band.{weight, fallen, fallOf, sumTo, limitsAt}
 use Rattle.fcr.specs.Values.{Marked, Values}
 
 pub marked : Marked
-unfolding setpointOf weightFactor weight fallen fallOf sumTo limitsAt upperKw maxZ
+unfolding setpointOf weightFactor firstSheet perKw weight fallen fallOf sumTo limitsAt upperKw maxZ
 marked =
     record {
       held-400-at-9 = refl;
@@ -23,7 +24,7 @@ marked =
     }
 
 pub values : Values
-unfolding setpointOf weightFactor weight fallen fallOf sumTo limitsAt upperKw maxZ
+unfolding setpointOf weightFactor firstSheet perKw weight fallen fallOf sumTo limitsAt upperKw maxZ
 values =
     record {
       marked = marked;
@@ -42,4 +43,14 @@ values =
       fall-at-age-30 = refl;
       two-falls = refl;
       fall-below = refl;
+      quick-at-age-5 = refl;
+      quick-at-age-6 = refl;
+      quick-at-age-9 = refl;
+      quick-at-age-10 = refl;
+      no-floor = refl;
+      no-floor-fall = refl;
+      half-floor = refl;
+      half-floor-fall = refl;
+      finest-at-age-16 = refl;
+      finest-at-age-28 = refl;
     }

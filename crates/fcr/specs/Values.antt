@@ -6,21 +6,37 @@ use lib.IntN.{ℤ, pos, negℤ, _-ℤ_}
 use lib.ListN.{replicate}
 use Rattle.power.specs.declared.kilowatts.Kw.{Kw}
 use Rattle.power.specs.Units.{kw}
+use Rattle.sheet.specs.declared.Sheet.{Sheet}
+use Rattle.sheet.specs.Sheet.{firstSheet}
+use Rattle.sheet.specs.Values.{sheetOf}
 use Rattle.fcr.specs.Setpoint.{setpointOf}
 use Rattle.fcr.specs.Factor.{weightFactor}
 use Rattle.fcr.specs.Band.{bandAt}
 
 -- the published upper limit less the setpoint, at the setpoint s after the past h
-abbrev pub tolerance : List Kw → ℤ → ℤ → ℤ
-tolerance h s held = bandAt h (kw s) (kw held) .high .0 -ℤ s
+abbrev pub tolerance : Sheet → List Kw → ℤ → ℤ → ℤ
+tolerance sh h s held = bandAt sh h (kw s) (kw held) .high .0 -ℤ s
 
 -- one fall from 0 to -d, at age a
-abbrev pub fallBy : ℕ → ℤ → ℕ → ℤ
-fallBy d held a = tolerance (replicate a (kw (negℤ (pos d)))) (negℤ (pos d)) held
+abbrev pub fallBy : Sheet → ℕ → ℤ → ℕ → ℤ
+fallBy sh d held a = tolerance sh (replicate a (kw (negℤ (pos d)))) (negℤ (pos d)) held
 
--- "FCR held 400, one fall 0 to -100" at age a
+-- "FCR held 400, one fall 0 to -100" at age a, by document 01's figures
 abbrev pub fallTolerance : ℕ → ℤ
-fallTolerance a = fallBy 100 (pos 400) a
+fallTolerance a = fallBy firstSheet 100 (pos 400) a
+
+-- the sheets with a reaction time of 5, with FCR's floor at either end of its range (and aFRR's at the other), and with the most grains to the kW
+abbrev pub quick : Sheet
+quick = sheetOf 5 5 20 (pos 1000) 5 30
+
+abbrev pub noFloor : Sheet
+noFloor = sheetOf 0 50 20 (pos 1000) 15 30
+
+abbrev pub halfFloor : Sheet
+halfFloor = sheetOf 50 0 20 (pos 1000) 15 30
+
+abbrev pub finest : Sheet
+finest = sheetOf 5 5 20 (pos 1000) 15 1
 
 -- those that document 01 marks with *
 pub record Marked : Type 0 where
@@ -54,8 +70,21 @@ pub record Values : Type 0 where
   -- ".. 20 at 28": 5 % is the larger
   pub fall-at-age-28 : fallTolerance 28 ≡ pos 20
   -- nothing held: the last age that weighs something, and the last one
-  pub fall-at-age-29 : fallBy 300 (pos 0) 29 ≡ pos 10
-  pub fall-at-age-30 : fallBy 300 (pos 0) 30 ≡ pos 0
+  pub fall-at-age-29 : fallBy firstSheet 300 (pos 0) 29 ≡ pos 10
+  pub fall-at-age-30 : fallBy firstSheet 300 (pos 0) 30 ≡ pos 0
   -- two falls are summed; one to below s doesn't count
-  pub two-falls : tolerance (kw (negℤ (pos 100)) ∷ []) (negℤ (pos 200)) (pos 0) ≡ pos 200
-  pub fall-below : tolerance (kw (negℤ (pos 100)) ∷ []) (pos 0) (pos 0) ≡ pos 0
+  pub two-falls : tolerance firstSheet (kw (negℤ (pos 100)) ∷ []) (negℤ (pos 200)) (pos 0) ≡ pos 200
+  pub fall-below : tolerance firstSheet (kw (negℤ (pos 100)) ∷ []) (pos 0) (pos 0) ≡ pos 0
+  -- a reaction time of 5 and so a whole time of 10 (02, W9): the last age with all of the weight, the first past it, the last that weighs something, and the last
+  pub quick-at-age-5 : fallBy quick 100 (pos 0) 5 ≡ pos 100
+  pub quick-at-age-6 : fallBy quick 100 (pos 0) 6 ≡ pos 40
+  pub quick-at-age-9 : fallBy quick 100 (pos 0) 9 ≡ pos 10
+  pub quick-at-age-10 : fallBy quick 100 (pos 0) 10 ≡ pos 0
+  -- FCR's floor at 0 and at 50 %: with no change, and beside a weight of 46
+  pub no-floor : tolerance noFloor [] (pos 0) (pos 400) ≡ pos 0
+  pub no-floor-fall : fallBy noFloor 100 (pos 400) 28 ≡ pos 6
+  pub half-floor : tolerance halfFloor [] (pos 0) (pos 400) ≡ pos 200
+  pub half-floor-fall : fallBy halfFloor 100 (pos 400) 16 ≡ pos 200
+  -- aFRR's reaction time changes the grains of a kW, and no band of FCR
+  pub finest-at-age-16 : fallBy finest 100 (pos 400) 16 ≡ fallTolerance 16
+  pub finest-at-age-28 : fallBy finest 100 (pos 400) 28 ≡ fallTolerance 28

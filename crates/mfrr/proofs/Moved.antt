@@ -5,6 +5,7 @@ use Prim.Native.Nat.{ℕ, _+_, _-_, _%_, _<_, _≤_}
 use native.Mathlib.Omega.{arith}
 use borrow.Author.Tests.{lt-ltb, le-ltb, ltb-true, ltb-false}
 use lib.Dec.{ltb}
+use Rattle.sheet.specs.declared.Sheet.{Sheet}
 use Rattle.mfrr.specs.declared.MfrrState.{MfrrState}
 use Rattle.mfrr.specs.Signal.{quarterHour, MfrrSecond, quiet, call, movedOn, History}
 use Rattle.mfrr.specs.Refusals.{longestCall, endOut, callRules, rulesAt}
@@ -37,7 +38,7 @@ module _ (n t : ℕ) (whole : n % quarterHour ≡ 0) where
   moved-number h quiet = refl
   moved-number h (call e D) = rw (end-moved D)
 
-  pub moved-step : (s : MfrrState) (x : MfrrSecond) → stepIn s (t + n) (movedOn n x) ≡ stepIn s t x
+  pub moved-step : (sh : Sheet) (s : MfrrState) (x : MfrrSecond) → stepIn sh s (t + n) (movedOn n x) ≡ stepIn sh s t x
   unfolding stepIn refusalIn numberOf callRules takenIn calledIn
-  moved-step s quiet = refl
-  moved-step s (call e D) = rw (end-moved D, left-moved D)
+  moved-step sh s quiet = refl
+  moved-step sh s (call e D) = rw (end-moved D, left-moved D)

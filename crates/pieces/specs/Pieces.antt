@@ -6,6 +6,7 @@ use mathlib.Core.Bool.{Bool, true, false}
 use mathlib.Core.List.{List, [], _∷_, _++_}
 use lib.Dec.{eqb}
 use lib.ListN.{length, take}
+use Rattle.sheet.specs.declared.Sheet.{Sheet}
 use Rattle.block.specs.Places.{blockSize}
 use Rattle.codec.specs.Put.{Put}
 use Rattle.line.specs.Widths.{rowRoom}
@@ -101,8 +102,8 @@ pub record Chunked (r : Reading) (s b e : List ℕ) (used : ℕ) (t : Taken) : T
   pub takes : Takes blockRoom b e used t (bytesIn (r .standing) (partOf r) s)
   pub paced : t .used * blockSize + t .reading .filled * blockRoom ≤ used * blockSize + (r .filled + length s) * blockRoom
 
-pub record IsStart (f : Form) (r : Reading) : Type 0 where
-  pub standing : r .standing ≡ start f
+pub record IsStart (sh : Sheet) (f : Form) (r : Reading) : Type 0 where
+  pub standing : r .standing ≡ start sh f
   pub part : partOf r ≡ []
   pub ready : ReadingReady r
 

@@ -1,6 +1,7 @@
 // A book taken in pieces of any size: whole blocks are run where they lie, and the bytes of one that comes in parts are gathered in an array.
 use report::Form;
 use report::Verdict;
+use sheet::Sheet;
 use standing::Advance;
 use standing::Standing;
 ghost use Prim.Native.Nat.{_+_, _*_, _≤_, _<_, min};
@@ -8,6 +9,7 @@ ghost use mathlib.Core.Path.{_≡_};
 ghost use mathlib.Core.Bool.{true};
 ghost use lib.ListN.{length};
 ghost use Rattle.codec.specs.Put.{Put};
+ghost use Rattle.sheet.specs.Sheet.{InRange};
 ghost use Rattle.block.specs.Places.{blockSize};
 ghost use Rattle.report.specs.Text.{blockRoom};
 ghost use Rattle.standing.specs.Standing.{isDue, StandingReady};
@@ -69,12 +71,13 @@ fn run_blocks(standing: Standing, bytes: &[u8], count: usize, out: &mut [u8]) ->
 }
 
 impl Reading {
-    // Before the first byte.
-    pub fn new(form: Form) -> Reading
-        ensures { λ r. ⌜ IsStart form r ⌝ }
+    // Before the first byte, under a sheet whose figures are in range.
+    pub fn new(sheet: Sheet, form: Form) -> Reading
+        requires { ⌜ InRange sheet ⌝ }
+        ensures { λ r. ⌜ IsStart sheet form r ⌝ }
     {
         Reading {
-            standing: Standing::new(form),
+            standing: Standing::new(sheet, form),
             part: [0; block::SIZE],
             filled: 0,
         }

@@ -13,9 +13,12 @@ use mir.Val.{SFits, hbits}
 use mir.Facts.{fits-le, fits-lit}
 use Rattle.numbers.proofs.Fit.{within-le, within-lit, fits-by}
 use Rattle.power.specs.declared.limits.Limits.{Limits}
-use Rattle.power.specs.Units.{perKw, mostReserve}
+use Rattle.power.specs.Units.{Divides, mostReserve}
 use Rattle.power.specs.Inward.{publishedOf}
 use Rattle.power.proofs.Inside.{upper-within, lower-within}
+use Rattle.sheet.specs.declared.Sheet.{Sheet}
+use Rattle.sheet.specs.Sheet.{InRange, perKw}
+use Rattle.sheet.proofs.Sizes.{divides}
 use Rattle.record.specs.declared.Record.{Record}
 use Rattle.record.specs.Record.{size, recordOf}
 use Rattle.row.specs.declared.Rounding.{Rounding}
@@ -75,10 +78,10 @@ said-by : (n : ℕ) (r : Row) → says (answerBy n r) ≡ saidBy n (figuresOf r)
 said-by zero r = refl
 said-by (suc n) r = refl
 
-pub over-past : (c : Closed) (h : History) (a : Accepted c h) (s : List ℕ) (m w : ℤ) → OverPast c h s m w (stepIn (stateOf c h) s m w)
+pub over-past : (sh : Sheet) → InRange sh → (c : Closed) (h : History) (a : Accepted c h) (s : List ℕ) (m w : ℤ) → OverPast sh c h s m w (stepIn sh (stateOf sh c h) s m w)
 unfolding answerAt
-over-past c h a s m w =
-    let o = over-bytes c h a s m w in
+over-past sh i c h a s m w =
+    let o = over-bytes sh i c h a s m w in
     record {
       said = ap (λ (p : PlantStep). says (p .answer)) o ∙ said-by (numberAt c h s) _;
       number = ap (λ (p : PlantStep). numberIn (p .answer)) o ∙ number-by (numberAt c h s) _;
@@ -89,20 +92,20 @@ over-past c h a s m w =
 
 -- ---- a list
 
-module _ (c : Closed) where
-  lasts : (ss : List PlantSecond) (h : History) → Accepted c h → stateAfter (stateOf c h) ss ≡ stateOf c (accepted c h ss)
+module _ (sh : Sheet) (i : InRange sh) (c : Closed) where
+  lasts : (ss : List PlantSecond) (h : History) → Accepted c h → stateAfter sh (stateOf sh c h) ss ≡ stateOf sh c (accepted c h ss)
   unfolding stateAfter accepted
   lasts [] h a = refl
   lasts (s ∷ ss) h a =
-      let o = over-past c h a (s .bytes) (s .added-measured) (s .added-point) in
+      let o = over-past sh i c h a (s .bytes) (s .added-measured) (s .added-point) in
       rw (o .state) (lasts ss (grown c h (s .bytes)) (o .stays))
 
-  each-answer : (ss : List PlantSecond) (h : History) → Accepted c h → answers (stateOf c h) ss ≡ answersOver c h ss
+  each-answer : (ss : List PlantSecond) (h : History) → Accepted c h → answers sh (stateOf sh c h) ss ≡ answersOver sh c h ss
   unfolding answers answersOver
   each-answer [] h a = refl
   each-answer (s ∷ ss) h a =
-      let o = over-past c h a (s .bytes) (s .added-measured) (s .added-point) in
-      rw (o .answer, o .state) (ap (λ (l : List PlantAnswer). answerAt c h (s .bytes) (s .added-measured) (s .added-point) ∷ l) (each-answer ss (grown c h (s .bytes)) (o .stays)))
+      let o = over-past sh i c h a (s .bytes) (s .added-measured) (s .added-point) in
+      rw (o .answer, o .state) (ap (λ (l : List PlantAnswer). answerAt sh c h (s .bytes) (s .added-measured) (s .added-point) ∷ l) (each-answer ss (grown c h (s .bytes)) (o .stays)))
 
   all-accepted : (ss : List PlantSecond) (h : History) → Accepted c h → Accepted c (accepted c h ss)
   unfolding accepted
@@ -117,21 +120,21 @@ pub none-accepted : Accepted [] []
 unfolding Accepted AllClosed
 none-accepted = tt
 
-pub lists-after : (c : Closed) (h : History) → Accepted c h → (ss : List PlantSecond) → EveryList c h ss
-lists-after c h a ss =
-    let all = all-accepted c ss h a in
+pub lists-after : (sh : Sheet) → InRange sh → (c : Closed) (h : History) → Accepted c h → (ss : List PlantSecond) → EveryList sh c h ss
+lists-after sh i c h a ss =
+    let all = all-accepted sh i c ss h a in
     record {
-      last = lasts c ss h a;
-      each = each-answer c ss h a;
+      last = lasts sh i c ss h a;
+      each = each-answer sh i c ss h a;
       accepted-all = all;
-      ready = subst Ready (sym (lasts c ss h a)) (ready c (accepted c h ss) all);
+      ready = subst (Ready sh) (sym (lasts sh i c ss h a)) (ready sh i c (accepted c h ss) all);
     }
 
 -- ---- handed over
 
-handed-over : (c : Closed) (h : History) → handedOver (stateOf c h) ≡ stateOf (h ∷ c) []
+handed-over : (sh : Sheet) (c : Closed) (h : History) → handedOver (stateOf sh c h) ≡ stateOf sh (h ∷ c) []
 unfolding stateOf
-handed-over c h = refl
+handed-over sh c h = refl
 
 pub handed-accepted : (c : Closed) (h : History) → length h % quarterHour ≡ 0 → Accepted c h → Accepted (h ∷ c) []
 unfolding Accepted AllClosed
@@ -181,35 +184,37 @@ small-fits r h =
           rounding = rounded (k .rounding) (h .rounding);
         }
 
-module _ (c : Closed) (h : History) (a : Accepted c h) (x : Record) (accepted-x : recordNumberAt c h x ≡ 0) where
+module _ (sh : Sheet) (i : InRange sh) (c : Closed) (h : History) (a : Accepted c h) (x : Record) (accepted-x : recordNumberAt c h x ≡ 0) where
   cleared : Clear c h x
   cleared = clear c h x accepted-x
 
-  all-published : AllPublished (kindList c h x)
+  all-published : AllPublished (kindList sh c h x)
   unfolding kindsAt kindsWith
   all-published =
       let p = cleared .passed-1-to-7 in (
-        (λ on. fcr-claims.claims .published (fcrPast c h) (fcrSetpoint x) (x .«fcr_held») (p .fcr-held .sign)),
+        (λ on. fcr-claims.claims .published sh i (fcrPast c h) (fcrSetpoint x) (x .«fcr_held») (p .fcr-held .sign)),
         (
-          (λ on. afrr-claims.claims .published (afrrPast c h) (afrrSecond x) (afrr-second-fair (length h) x p)),
-          ((λ on. mfrr-claims.claims .published (mfrrPast c h) (mfrrSecond (onTimeline c x))), tt),
+          (λ on. afrr-claims.claims .published sh i (afrrPast c h) (afrrSecond x) (afrr-second-fair (length h) x p)),
+          ((λ on. mfrr-claims.claims .published sh i (mfrrPast c h) (mfrrSecond (onTimeline c x))), tt),
         ),
       )
 
   -- a published band is as small as its limits
-  band-sized : (B : ℕ) (l : Limits) → T (leb B sharing.mostLimit) → Within (B * perKw) (l .lower .0) → Within (B * perKw) (l .upper .0) → Within sharing.mostLimit (publishedOf l .low .0) × Within sharing.mostLimit (publishedOf l .high .0)
-  band-sized B l t p q = (within-le B sharing.mostLimit _ (lower-within B _ p) t, within-le B sharing.mostLimit _ (upper-within B _ q) t)
+  band-sized : (B : ℕ) (l : Limits) → T (leb B sharing.mostLimit) → Within (B * perKw sh) (l .lower .0) → Within (B * perKw sh) (l .upper .0) → Within sharing.mostLimit (publishedOf (perKw sh) l .low .0) × Within sharing.mostLimit (publishedOf (perKw sh) l .high .0)
+  band-sized B l t p q =
+      let d = divides sh i .some in
+      (within-le B sharing.mostLimit _ (lower-within (perKw sh) d B _ p) t, within-le B sharing.mostLimit _ (upper-within (perKw sh) d B _ q) t)
 
-  kinds-sized : sharing.SizedKinds (kindsAt c h x .fcr) (kindsAt c h x .afrr) (kindsAt c h x .mfrr)
+  kinds-sized : sharing.SizedKinds (kindsAt sh c h x .fcr) (kindsAt sh c h x .afrr) (kindsAt sh c h x .mfrr)
   unfolding kindsAt kindsWith
   kinds-sized =
       let p = cleared .passed-1-to-7 in
       let s = setpoint-within _ (x .deviation .0) (p .fcr-held .range) in
       let fair : fcr.Fair (fcrSetpoint x) (x .«fcr_held») = record { setpoint-range = s; held-range = p .fcr-held .range; held-sign = p .fcr-held .sign } in
       let all : afrr.AllFair (afrrPast c (x ∷ h)) = (afrr-second-fair (length h) x p, afrr-fair c h a) in
-      let f = band-sized fcr.mostLimit _ tt (fcr-claims.claims .lower-small (fcrPast c h) (fcrSetpoint x) (x .«fcr_held») (fcr-ranged c h a) fair) (fcr-claims.claims .upper-small (fcrPast c h) (fcrSetpoint x) (x .«fcr_held») (fcr-ranged c h a) fair) in
-      let b = band-sized afrr.mostLimit _ tt (afrr-claims.claims .lower-small (afrrPast c (x ∷ h)) all) (afrr-claims.claims .upper-small (afrrPast c (x ∷ h)) all) in
-      let g = mfrr-claims.claims .range (mfrrPast c h) (mfrrSecond (onTimeline c x)) (mfrr-accepted c (x ∷ h) (also-accepted c h x accepted-x a)) in
+      let f = band-sized fcr.mostLimit _ tt (fcr-claims.claims .lower-small sh i (fcrPast c h) (fcrSetpoint x) (x .«fcr_held») (fcr-ranged c h a) fair) (fcr-claims.claims .upper-small sh i (fcrPast c h) (fcrSetpoint x) (x .«fcr_held») (fcr-ranged c h a) fair) in
+      let b = band-sized afrr.mostLimit _ tt (afrr-claims.claims .lower-small sh i (afrrPast c (x ∷ h)) all) (afrr-claims.claims .upper-small sh i (afrrPast c (x ∷ h)) all) in
+      let g = mfrr-claims.claims .range sh i (mfrrPast c h) (mfrrSecond (onTimeline c x)) (mfrr-accepted c (x ∷ h) (also-accepted c h x accepted-x a)) in
       record {
         fcr = record { setpoint = s; low = f .0; high = f .1 };
         afrr = record { setpoint = p .afrr-setpoint; low = b .0; high = b .1 };
@@ -224,10 +229,10 @@ module _ (c : Closed) (h : History) (a : Accepted c h) (x : Record) (accepted-x 
       (more mostPower mostAdded sharing.mostShared _ m (omega arith) (p .measured) (d .measured))
       (more mostPower mostPower sharing.mostShared _ w (omega arith) (p .working-point) (d .working-point))
 
-  pub row-holds : (m w : ℤ) → RowHolds c h x m w
+  pub row-holds : (m w : ℤ) → RowHolds sh c h x m w
   unfolding rowAt
   row-holds m w =
-      let k = kindsAt c h x in
+      let k = kindsAt sh c h x in
       let r = row-shared (sharedDifference x m w) (k .fcr) (k .afrr) (k .mfrr) in
       record {
         balance = r .balance;
@@ -236,7 +241,7 @@ module _ (c : Closed) (h : History) (a : Accepted c h) (x : Record) (accepted-x 
         sized = λ D d. sized D (sharedDifference x m w) (k .fcr) (k .afrr) (k .mfrr) d kinds-sized;
       }
 
-  pub row-fits : (m w : ℤ) → Added m w → Row32 (rowAt c h x m w)
+  pub row-fits : (m w : ℤ) → Added m w → Row32 (rowAt sh c h x m w)
   row-fits m w d = small-fits _ (row-holds m w .sized mostDifference (difference-sized m w d))
 
 -- nothing is added
@@ -252,19 +257,19 @@ stuck =
 
 -- ---- all of it
 
-pub claims : Claims
-claims =
+pub claims : (sh : Sheet) → InRange sh → Claims sh
+claims sh i =
     record {
-      every-list = lists-after [] [] none-accepted;
-      lists-after = lists-after;
-      fresh-book = fresh-book;
-      handed-over = handed-over;
-      cut = cut;
-      over-past = λ c h a s m w. over-past c h a s m w;
-      row-holds = λ c h a x e m w. row-holds c h a x e m w;
-      fits = λ c h a x e. row-fits c h a x e (pos 0) (pos 0) none-added;
+      every-list = lists-after sh i [] [] none-accepted;
+      lists-after = lists-after sh i;
+      fresh-book = fresh-book sh;
+      handed-over = handed-over sh;
+      cut = cut sh;
+      over-past = λ c h a s m w. over-past sh i c h a s m w;
+      row-holds = λ c h a x e m w. row-holds sh i c h a x e m w;
+      fits = λ c h a x e. row-fits sh i c h a x e (pos 0) (pos 0) none-added;
       same-turned-down = same-turned-down;
-      quarter-hour = quarter-hour;
+      quarter-hour = quarter-hour sh;
       fault-no-kind = fault-no-kind;
       stuck = stuck;
       free-again = free-again;

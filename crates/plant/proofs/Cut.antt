@@ -11,6 +11,7 @@ use lib.ListN.{length, length-map, length-append}
 use Rattle.numbers.specs.Rules.{first, differ}
 use Rattle.numbers.proofs.Rules.{none, neither}
 use Rattle.power.specs.Units.{kw}
+use Rattle.sheet.specs.declared.Sheet.{Sheet}
 use Rattle.record.specs.declared.Record.{Record}
 use Rattle.record.specs.Record.{mostSeconds, bitsOf}
 use Rattle.fcr.specs.Band as fcr
@@ -100,7 +101,7 @@ unfolding Accepted
 both-books early [] a = own-past early
 both-books early (x ∷ late) a = λ i. on-it early late x (a .0) i ∷ both-books early late (a .1) i
 
-module _ (early late : History) (whole : length early % quarterHour ≡ 0) (a : Accepted [] (late ++ early)) (x : Record) (e : recordNumberAt [] (late ++ early) x ≡ 0) where
+module _ (sh : Sheet) (early late : History) (whole : length early % quarterHour ≡ 0) (a : Accepted [] (late ++ early)) (x : Record) (e : recordNumberAt [] (late ++ early) x ≡ 0) where
   abbrev n : ℕ
   n = length early
 
@@ -122,14 +123,14 @@ module _ (early late : History) (whole : length early % quarterHour ≡ 0) (a : 
   setpoints : setpointsAt (early ∷ []) own y ≡ setpointsAt [] one x
   setpoints = λ i. setpointsWith x (kw (setpointAt (map mfrrSecond (past i)) (mfrrSecond (same-second i))))
 
-  kinds : kindsAt (early ∷ []) own y ≡ kindsAt [] one x
+  kinds : kindsAt sh (early ∷ []) own y ≡ kindsAt sh [] one x
   unfolding kindsAt kindsWith
   kinds =
       λ i.
       kindsWith x (setpoints i)
-      (fcr.bandAt (map fcrSetpoint (past i)) (fcrSetpoint x) (x .«fcr_held»))
-      (afrr.bandAt (map afrrSecond (past i)) (afrrSecond x))
-      (mfrr.bandAt (map mfrrSecond (past i)) (mfrrSecond (same-second i)))
+      (fcr.bandAt sh (map fcrSetpoint (past i)) (fcrSetpoint x) (x .«fcr_held»))
+      (afrr.bandAt sh (map afrrSecond (past i)) (afrrSecond x))
+      (mfrr.bandAt sh (map mfrrSecond (past i)) (mfrrSecond (same-second i)))
 
   closed : AllClosed (early ∷ [])
   unfolding AllClosed Accepted
@@ -157,6 +158,6 @@ module _ (early late : History) (whole : length early % quarterHour ≡ 0) (a : 
       number-parts (early ∷ []) own y
       ∙ rw (still-none n (length own) x whole (lastStatus (early ∷ []) own) own-count, call-none, ap (offNumber (bitsOf (x .status))) setpoints ∙ off)
 
-  pub cut : Cut early late x
+  pub cut : Cut sh early late x
   unfolding rowAt
   cut = record { number = number; row = λ m w. ap (λ (k : Kinds). rowBy x k m w) kinds }

@@ -7,6 +7,7 @@ use native.Mathlib.Omega.{arith}
 use lib.Dec.{eqb}
 use lib.ListN.{length}
 use Rattle.power.specs.Units.{kw}
+use Rattle.sheet.specs.declared.Sheet.{Sheet}
 use Rattle.record.specs.declared.Record.{Record}
 use Rattle.fcr.specs.Band as fcr
 use Rattle.afrr.specs.Band as afrr
@@ -30,26 +31,26 @@ pub own-past : (h : History) → timeline (h ∷ []) ≡ h
 own-past [] = refl
 own-past (x ∷ h) = λ i. stays-put x i ∷ own-past h i
 
-module _ (h : History) where
+module _ (sh : Sheet) (h : History) where
   setpoints : (x : Record) → setpointsAt [] h x ≡ freshSetpoints h x
   setpoints x = λ i. setpointsWith x (kw (mfrr.setpointAt (map mfrrSecond (own-past h i)) (mfrrSecond (stays-put x i))))
 
   kinds :
       (x : Record)
-      → kindsAt [] h x
+      → kindsAt sh [] h x
       ≡ kindsWith x (freshSetpoints h x)
-      (fcr.bandAt (map fcrSetpoint h) (fcrSetpoint x) (x .«fcr_held»))
-      (afrr.bandAt (map afrrSecond h) (afrrSecond x))
-      (mfrr-band.bandAt (map mfrrSecond h) (mfrrSecond x))
+      (fcr.bandAt sh (map fcrSetpoint h) (fcrSetpoint x) (x .«fcr_held»))
+      (afrr.bandAt sh (map afrrSecond h) (afrrSecond x))
+      (mfrr-band.bandAt sh (map mfrrSecond h) (mfrrSecond x))
   unfolding kindsAt
   kinds x =
       λ i.
       kindsWith x (setpoints x i)
-      (fcr.bandAt (map fcrSetpoint (own-past h i)) (fcrSetpoint x) (x .«fcr_held»))
-      (afrr.bandAt (map afrrSecond (own-past h i)) (afrrSecond x))
-      (mfrr-band.bandAt (map mfrrSecond (own-past h i)) (mfrrSecond (stays-put x i)))
+      (fcr.bandAt sh (map fcrSetpoint (own-past h i)) (fcrSetpoint x) (x .«fcr_held»))
+      (afrr.bandAt sh (map afrrSecond (own-past h i)) (afrrSecond x))
+      (mfrr-band.bandAt sh (map mfrrSecond (own-past h i)) (mfrrSecond (stays-put x i)))
 
-  pub fresh-book : FreshBook h
+  pub fresh-book : FreshBook sh h
   unfolding stateOf
   fresh-book =
       record {

@@ -12,6 +12,7 @@ use Rattle.numbers.specs.Rules.{Rule, refuse, first, differ}
 use Rattle.numbers.proofs.Rules.{none, neither}
 use Rattle.numbers.proofs.Test.{or-false}
 use Rattle.numbers.specs.Bounds.{outside}
+use Rattle.sheet.specs.declared.Sheet.{Sheet}
 use Rattle.record.specs.declared.KindBits.{KindBits}
 use Rattle.record.specs.declared.Record.{Record}
 use Rattle.record.specs.Record.{recordOf, bitsOf, faultIn}
@@ -70,12 +71,12 @@ and-false : (t : Bool) → (t && false) ≡ false
 and-false true = refl
 and-false false = refl
 
-pub quarter-hour : (c : Closed) (h : History) (s : List ℕ) → QuarterHour c h s
+pub quarter-hour : (sh : Sheet) (c : Closed) (h : History) (s : List ℕ) → QuarterHour sh c h s
 unfolding answerAt statusMoved
-quarter-hour c h s =
+quarter-hour sh c h s =
     record {
       other-numbers = other-numbers c h s;
-      same-answer = λ n m w. ap (λ (k : ℕ). answerBy k (rowAt c h (recordOf s) m w)) (other-numbers c h s n);
+      same-answer = λ n m w. ap (λ (k : ℕ). answerBy k (rowAt sh c h (recordOf s) m w)) (other-numbers c h s n);
       unchanged = λ e. rw (e, none-moves) (and-false (differ (length h % quarterHour) 0));
       at-multiples = λ e. rw (eq-eqb _ _ e);
     }

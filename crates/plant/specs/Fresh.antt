@@ -5,6 +5,7 @@ use mathlib.Core.List.{List, [], _∷_, map}
 use lib.ListN.{length}
 use Rattle.numbers.specs.Rules.{Rule}
 use Rattle.power.specs.Units.{kw}
+use Rattle.sheet.specs.declared.Sheet.{Sheet}
 use Rattle.record.specs.declared.Record.{Record}
 use Rattle.fcr.specs.Band as fcr
 use Rattle.fcr.specs.State as fcr-state
@@ -24,7 +25,7 @@ use Rattle.plant.specs.State.{stateOf}
 abbrev pub freshSetpoints : History → Record → Setpoints
 freshSetpoints h x = setpointsWith x (kw (mfrr.setpointAt (map mfrrSecond h) (mfrrSecond x)))
 
-pub record FreshBook (h : History) : Type 0 where
+pub record FreshBook (sh : Sheet) (h : History) : Type 0 where
   pub past : timeline (h ∷ []) ≡ h
   pub setpoints : (x : Record) → setpointsAt [] h x ≡ freshSetpoints h x
   pub rules :
@@ -32,17 +33,17 @@ pub record FreshBook (h : History) : Type 0 where
       → recordRulesAt [] h x ≡ rulesWith (length h) (statusOf h) x (mfrr-refusals.rulesAt (length h) (map mfrrSecond h) (mfrrSecond x)) (freshSetpoints h x)
   pub kinds :
       (x : Record)
-      → kindsAt [] h x
+      → kindsAt sh [] h x
       ≡ kindsWith x (freshSetpoints h x)
-      (fcr.bandAt (map fcrSetpoint h) (fcrSetpoint x) (x .«fcr_held»))
-      (afrr.bandAt (map afrrSecond h) (afrrSecond x))
-      (mfrr-band.bandAt (map mfrrSecond h) (mfrrSecond x))
+      (fcr.bandAt sh (map fcrSetpoint h) (fcrSetpoint x) (x .«fcr_held»))
+      (afrr.bandAt sh (map afrrSecond h) (afrrSecond x))
+      (mfrr-band.bandAt sh (map mfrrSecond h) (mfrrSecond x))
   pub state :
-      stateOf [] h
+      stateOf sh [] h
       ≡ record {
         seconds = length h;
         fcr = fcr-state.stateOf (map fcrSetpoint h);
-        afrr = afrr-state.stateOf (map afrrSecond h);
-        mfrr = mfrr-state.stateOf (map mfrrSecond h);
+        afrr = afrr-state.stateOf sh (map afrrSecond h);
+        mfrr = mfrr-state.stateOf sh (map mfrrSecond h);
         «last_status» = statusOf h;
       }

@@ -14,4 +14,8 @@ values =
       lower-more = refl;
       lower-below-0 = refl;
       published = refl;
+      many-whole = refl;
+      many-less = refl;
+      five-percent = refl;
+      times-1-2 = refl;
     }

@@ -8,6 +8,8 @@ use lib.Dec.{eqb}
 use lib.ListN.{length, take, drop, length-append}
 use borrow.Author.Tests.{eqb-false}
 use Rattle.numbers.specs.Rules.{orElse}
+use Rattle.sheet.specs.declared.Sheet.{Sheet}
+use Rattle.sheet.specs.Sheet.{InRange}
 use Rattle.book.specs.Seconds.{BookSecond, History}
 use Rattle.book.specs.Sums.{sumsOf}
 use Rattle.book.specs.Run.{accepted, bookAfter}
@@ -67,25 +69,25 @@ wanted-none st filled h e s p = go (st .verdict) (isDue st) refl refl e
     go verdict.Accepted false q r z = absurd (omega (arith, z))
     go verdict.Accepted true q r z = absurd (omega (arith, z, due-block st r))
 
-enough : (f : Form) (s more : List ℕ) → wantedIn (bytesIn (start f) [] s .standing) (length (bytesIn (start f) [] s .part)) ≡ 0 → printed f (s ++ more) ≡ printed f s
-enough f s more e =
-    let r = bytesIn (start f) [] s in
-    let w = wanted-none (r .standing) (length (r .part)) (few-kept s (start f) [] (omega arith)) e more (r .part) in
-    sym (whole f (s ++ more)) ∙ rw (cut (start f) [] s more, w .0, w .1, append-nil) (whole f s)
+enough : (sh : Sheet) → InRange sh → (f : Form) (s more : List ℕ) → wantedIn (bytesIn (start sh f) [] s .standing) (length (bytesIn (start sh f) [] s .part)) ≡ 0 → printed sh f (s ++ more) ≡ printed sh f s
+enough sh i f s more e =
+    let r = bytesIn (start sh f) [] s in
+    let w = wanted-none (r .standing) (length (r .part)) (few-kept s (start sh f) [] (omega arith)) e more (r .part) in
+    sym (whole sh i f (s ++ more)) ∙ rw (cut (start sh f) [] s more, w .0, w .1, append-nil) (whole sh i f s)
 
 -- ---- the sum line
 
-sum-line : (f : Form) (s : List ℕ) → headerNumber (take blockSize s) ≡ 0 → numberIn f (ownerOf (take blockSize s)) (secondsOf (take blockSize s)) (drop blockSize s) ≡ 0 → SumLine f s
+sum-line : (sh : Sheet) → InRange sh → (f : Form) (s : List ℕ) → headerNumber (take blockSize s) ≡ 0 → numberIn sh f (ownerOf (take blockSize s)) (secondsOf (take blockSize s)) (drop blockSize s) ≡ 0 → SumLine sh f s
 unfolding printed endText sumsOf
-sum-line f s header none =
+sum-line sh i f s header none =
     let o = ownerOf (take blockSize s) in
     let t = secondsOf (take blockSize s) in
-    let j = judgedIn f o t (drop blockSize s) in
-    let b = book.claims (secondsHeld s) .balanced in
-    let past : j .past ≡ accepted [] [] (secondsHeld s) = all-accepted f [] [] (secondsHeld s) (no-second (j .number) _ none) in
+    let j = judgedIn sh f o t (drop blockSize s) in
+    let b = book.claims sh i (secondsHeld s) .balanced in
+    let past : j .past ≡ accepted [] [] (secondsHeld s) = all-accepted sh f [] [] (secondsHeld s) (no-second (j .number) _ none) in
     record {
       lines = j .text;
-      figures = sumsOf [] (accepted [] [] (secondsHeld s));
+      figures = sumsOf sh [] (accepted [] [] (secondsHeld s));
       text = rw (header, none, past);
       a = refl;
       b = refl;
@@ -98,5 +100,5 @@ sum-line f s header none =
     no-second zero m e = refl
     no-second (suc n) m e = e
 
-pub claims : Claims
-claims = record { any-cut = λ f ss. pieces ss (start f) [] ∙ whole f (joined ss); enough = enough; sum-line = sum-line }
+pub claims : (sh : Sheet) → InRange sh → Claims sh
+claims sh i = record { any-cut = λ f ss. pieces ss (start sh f) [] ∙ whole sh i f (joined ss); enough = enough sh i; sum-line = sum-line sh i }

@@ -4,6 +4,7 @@ use mathlib.Core.List.{List, [], _∷_, _++_}
 use Prim.Native.Nat.{ℕ}
 use lib.ListN.{length, take, drop}
 use lib.IntN.{_+ℤ_}
+use Rattle.sheet.specs.declared.Sheet.{Sheet}
 use Rattle.row.specs.declared.sums.Sums.{Sums}
 use Rattle.book.specs.Seconds.{BookSecond}
 use Rattle.book.specs.Sums.{sumA, sumB, sumOpen, sumDue}
@@ -36,20 +37,21 @@ secondsHeld s =
 
 -- the book s is printed whole: its text ends with a sum line, whose figures are the four sums of demand 3 over the seconds that the blocks hold; in
 -- the short form the counts over these seconds stand before it
-pub record SumLine (f : Form) (s : List ℕ) : Type 0 where
+pub record SumLine (sh : Sheet) (f : Form) (s : List ℕ) : Type 0 where
   pub lines : List ℕ
   pub figures : Sums
-  pub text : printed f s ≡ lines ++ (countsOf f (tallyOf [] (accepted [] [] (secondsHeld s))) ++ sumText figures)
-  pub a : figures .a .0 ≡ sumA [] (accepted [] [] (secondsHeld s))
-  pub b : figures .b .0 ≡ sumB [] (accepted [] [] (secondsHeld s))
-  pub «open» : figures .«open» .0 ≡ sumOpen [] (accepted [] [] (secondsHeld s))
+  pub text : printed sh f s ≡ lines ++ (countsOf f (tallyOf sh [] (accepted [] [] (secondsHeld s))) ++ sumText figures)
+  pub a : figures .a .0 ≡ sumA sh [] (accepted [] [] (secondsHeld s))
+  pub b : figures .b .0 ≡ sumB sh [] (accepted [] [] (secondsHeld s))
+  pub «open» : figures .«open» .0 ≡ sumOpen sh [] (accepted [] [] (secondsHeld s))
   pub due : figures .due .0 ≡ sumDue (accepted [] [] (secondsHeld s))
   pub balance : figures .a .0 +ℤ figures .b .0 +ℤ figures .«open» .0 ≡ figures .due .0
 
-pub record Claims : Type 0 where
+-- for every sheet in range
+pub record Claims (sh : Sheet) : Type 0 where
   -- for every input and every way of cutting it into pieces
-  pub any-cut : (f : Form) (ss : List (List ℕ)) → told (start f) [] ss ≡ printed f (joined ss)
+  pub any-cut : (f : Form) (ss : List (List ℕ)) → told (start sh f) [] ss ≡ printed sh f (joined ss)
   -- where no more bytes are wanted, none that follow would count
-  pub enough : (f : Form) (s more : List ℕ) → wantedIn (bytesIn (start f) [] s .standing) (length (bytesIn (start f) [] s .part)) ≡ 0 → printed f (s ++ more) ≡ printed f s
+  pub enough : (f : Form) (s more : List ℕ) → wantedIn (bytesIn (start sh f) [] s .standing) (length (bytesIn (start sh f) [] s .part)) ≡ 0 → printed sh f (s ++ more) ≡ printed sh f s
   -- a header and blocks and seconds without a number give a sum line
-  pub sum-line : (f : Form) (s : List ℕ) → headerNumber (take blockSize s) ≡ 0 → numberIn f (ownerOf (take blockSize s)) (secondsOf (take blockSize s)) (drop blockSize s) ≡ 0 → SumLine f s
+  pub sum-line : (f : Form) (s : List ℕ) → headerNumber (take blockSize s) ≡ 0 → numberIn sh f (ownerOf (take blockSize s)) (secondsOf (take blockSize s)) (drop blockSize s) ≡ 0 → SumLine sh f s

@@ -5,6 +5,7 @@ use mathlib.Core.List.{List, [], _∷_, _++_}
 use Prim.Native.Nat.{ℕ}
 use lib.ListN.{replicate}
 use Rattle.codec.specs.Little.{le2, le4}
+use Rattle.sheet.specs.Sheet.{defaultSheet}
 use Rattle.block.specs.Book.{bookBytes}
 use Rattle.line.specs.Text.{ascii}
 use Rattle.report.specs.declared.Form.the-variants.{Line}
@@ -27,8 +28,8 @@ abbrev pub withoutB : List ℕ
 withoutB = plantSecond 4931 5000 400 1000 50 3 ++ (plantSecond 0 0 400 0 50 1 ++ plantSecond 200 180 0 1000 0 0)
 
 pub record Values : Type 0 where
-  pub full-case : printed Line (bookBytes 2 (fullSecond ∷ [])) ≡ ascii "0 U -79 10 0 0 A -79 0 0 0 B 0 30 0 0\nsum A -79 B 30 open 0 due -49\n"
+  pub full-case : printed defaultSheet Line (bookBytes 2 (fullSecond ∷ [])) ≡ ascii "0 U -79 10 0 0 A -79 0 0 0 B 0 30 0 0\nsum A -79 B 30 open 0 due -49\n"
   -- an empty input
-  pub nothing : printed Line [] ≡ ascii "refused 12 at 0\n"
+  pub nothing : printed defaultSheet Line [] ≡ ascii "refused 12 at 0\n"
   -- "A refusal prints `refused N at S` instead of the rest": of three seconds the first alone is accepted
-  pub refused-second : printed Line (bookBytes 2 (fullSecond ∷ withoutB ∷ fullSecond ∷ [])) ≡ ascii "0 U -79 10 0 0 A -79 0 0 0 B 0 30 0 0\nrefused 26 at 1\n"
+  pub refused-second : printed defaultSheet Line (bookBytes 2 (fullSecond ∷ withoutB ∷ fullSecond ∷ [])) ≡ ascii "0 U -79 10 0 0 A -79 0 0 0 B 0 30 0 0\nrefused 26 at 1\n"

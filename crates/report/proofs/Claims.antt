@@ -3,6 +3,8 @@ use mathlib.Core.Path.{_≡_, sym, ap, _∙_}
 use mathlib.Core.List.{List, []}
 use Prim.Native.Nat.{ℕ}
 use lib.IntN.{ℤ}
+use Rattle.sheet.specs.declared.Sheet.{Sheet}
+use Rattle.sheet.specs.Sheet.{InRange}
 use Rattle.record.specs.declared.Record.{Record}
 use Rattle.plant.specs.Seconds as plant
 use Rattle.plant.specs.Rows.{rowAt}
@@ -25,23 +27,23 @@ use Rattle.report.specs.Claims.{NoLine, NoLines, Claims}
 use Rattle.report.proofs.Past.{tally-none}
 use Rattle.report.proofs.Kept.{kept-list}
 
-quiet : (c : plant.Closed) (h : plant.History) (x : Record) (m w : ℤ) (t letter : ℕ) → RowHolds c h x m w → NoLine c h x m w t letter (rowAt c h x m w)
-quiet c h x m w t letter f on =
-    let l = silent .silent t letter (rowAt c h x m w) in
+quiet : (sh : Sheet) (c : plant.Closed) (h : plant.History) (x : Record) (m w : ℤ) (t letter : ℕ) → RowHolds sh c h x m w → NoLine sh c h x m w t letter (rowAt sh c h x m w)
+quiet sh c h x m w t letter f on =
+    let l = silent .silent t letter (rowAt sh c h x m w) in
     let i = f .within on in
     ((λ e. i .0 (l .0 e)), (λ e. l .1 (i .1 e)))
 
-no-line : (c : Closed) (h : History) → Accepted c h → (s : BookSecond) → numberAt c h s ≡ 0 → NoLines c h s
+no-line : (sh : Sheet) → InRange sh → (c : Closed) (h : History) → Accepted c h → (s : BookSecond) → numberAt c h s ≡ 0 → NoLines sh c h s
 unfolding unitRowAt poolRowAt
-no-line c h acc s e =
-    let r = rows-hold c h s acc (cleared c h s e) in
-    record { unit = quiet _ _ _ _ _ _ _ (r .unit); a = quiet _ _ _ _ _ _ _ (r .a); b = quiet _ _ _ _ _ _ _ (r .b) }
+no-line sh i c h acc s e =
+    let r = rows-hold sh i c h s acc (cleared c h s e) in
+    record { unit = quiet sh _ _ _ _ _ _ _ (r .unit); a = quiet sh _ _ _ _ _ _ _ (r .a); b = quiet sh _ _ _ _ _ _ _ (r .b) }
 
-begins : keep fresh zero ≡ keptOf [] []
-begins = λ i. keep (sym fresh-is i) (sym (tally-none []) i)
+begins : (sh : Sheet) → keep (fresh sh) zero ≡ keptOf sh [] []
+begins sh = λ i. keep (sym (fresh-is sh) i) (sym (tally-none sh []) i)
 
-every-list : (f : Form) (ss : List BookSecond) → keptAfter f (keep fresh zero) ss ≡ keptOf [] (accepted [] [] ss)
-every-list f ss = ap (λ (k : Kept). keptAfter f k ss) begins ∙ kept-list f ss [] [] none-accepted
+every-list : (sh : Sheet) → InRange sh → (f : Form) (ss : List BookSecond) → keptAfter f (keep (fresh sh) zero) ss ≡ keptOf sh [] (accepted [] [] ss)
+every-list sh i f ss = ap (λ (k : Kept). keptAfter f k ss) (begins sh) ∙ kept-list sh i f ss [] [] none-accepted
 
-pub claims : Claims
-claims = record { no-line = no-line; every-list = every-list; lists-after = λ f c h a ss. kept-list f ss c h a }
+pub claims : (sh : Sheet) → InRange sh → Claims sh
+claims sh i = record { no-line = no-line sh i; every-list = every-list sh i; lists-after = λ f c h a ss. kept-list sh i f ss c h a }

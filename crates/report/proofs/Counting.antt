@@ -27,7 +27,7 @@ module _ (k : Book) (s : BookSecond) where
   taken : (u a b : Row) → unitIn k s .answer ≡ plant-answer.Row u → Counts k (acceptedIn k s u a b)
   unfolding unitIn
   taken u a b e =
-      let c = plant.counted (k .unit) (unitBytes (s .bytes)) (pos 0) (pos 0) u e in
+      let c = plant.counted (k .sheet) (k .unit) (unitBytes (s .bytes)) (pos 0) (pos 0) u e in
       record { one-more = λ x y z q. c; least = omega arith }
 
   at-b : (u a : Row) → unitIn k s .answer ≡ plant-answer.Row u → (y : PlantAnswer) → Counts k (onRow y (λ b. acceptedIn k s u a b) (refusedBy k B))

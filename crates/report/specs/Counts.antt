@@ -2,6 +2,7 @@
 -- accepted before it, in this book and in the closed ones c.
 use mathlib.Core.List.{List, [], _∷_}
 use Prim.Native.Nat.{ℕ, _+_}
+use Rattle.sheet.specs.declared.Sheet.{Sheet}
 use Rattle.row.specs.declared.KindRow.{KindRow}
 use Rattle.row.specs.declared.Row.{Row}
 use Rattle.row.specs.declared.side.KindCounts.{KindCounts}
@@ -29,12 +30,12 @@ kindCounts k h =
 abbrev pub plantCounts : (History → BookSecond → Row) → History → PlantCounts
 plantCounts r h = record { fcr = kindCounts (λ p s. r p s .fcr) h; afrr = kindCounts (λ p s. r p s .afrr) h; mfrr = kindCounts (λ p s. r p s .mfrr) h }
 
-unfoldable pub tallyOf : Closed → History → Tally
-tallyOf c h = record { unit = plantCounts (unitRowAt c) h; a = plantCounts (aRowAt c) h; b = plantCounts (bRowAt c) h }
+unfoldable pub tallyOf : Sheet → Closed → History → Tally
+tallyOf sh c h = record { unit = plantCounts (unitRowAt sh c) h; a = plantCounts (aRowAt sh c) h; b = plantCounts (bRowAt sh c) h }
 
 -- what is kept after the closed books c and the seconds h
-abbrev pub keptOf : Closed → History → Kept
-keptOf c h = keep (stateOf c h) (tallyOf c h)
+abbrev pub keptOf : Sheet → Closed → History → Kept
+keptOf sh c h = keep (stateOf sh c h) (tallyOf sh c h)
 
 -- what is kept after a list of seconds, refused ones included wherever they fall, each with its own owner byte
 unfoldable pub keptAfter : Form → Kept → List BookSecond → Kept

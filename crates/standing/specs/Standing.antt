@@ -4,6 +4,7 @@ use Prim.Native.Nat.{ℕ, zero, suc, _+_, _*_, _-_, _≤_}
 use mathlib.Core.Bool.{Bool, true, false, cond}
 use mathlib.Core.List.{List, [], _∷_}
 use lib.Dec.{eqb, leb}
+use Rattle.sheet.specs.declared.Sheet.{Sheet}
 use Rattle.book.specs.declared.Book.{Book}
 use Rattle.book.specs.State.{fresh}
 use Rattle.tally.specs.Tally as tally
@@ -32,8 +33,8 @@ abbrev pub unmoved : Standing → List ℕ → Went
 unmoved st p = record { text = []; standing = st; part = p }
 
 -- before the header its seconds count as 0, so that block 0, the header, is due
-unfoldable pub start : Form → Standing
-start f = record { plan = record { form = f; owner = 0; seconds = 0 }; next = 0; book = fresh; tally = tally.zero; verdict = Accepted }
+unfoldable pub start : Sheet → Form → Standing
+start sh f = record { plan = record { form = f; owner = 0; seconds = 0 }; next = 0; book = fresh sh; tally = tally.zero; verdict = Accepted }
 
 -- what it keeps of the accepted seconds
 abbrev pub keptBy : Standing → Kept

@@ -6,11 +6,13 @@ use report::Form;
 use report::Plan;
 use report::TextLine;
 use report::Verdict;
+use sheet::Sheet;
 use tally::Tally;
 ghost use Prim.Native.Nat.{_+_, _≤_};
 ghost use mathlib.Core.Path.{_≡_};
 ghost use mathlib.Core.Bool.{true};
 ghost use lib.ListN.{length};
+ghost use Rattle.sheet.specs.Sheet.{InRange};
 ghost use Rattle.record.specs.Record.{mostSeconds};
 ghost use Rattle.report.specs.Text.{blockRoom, textOf};
 ghost use Rattle.report.specs.Running.{blockIn};
@@ -34,8 +36,9 @@ pub struct Advance {
 }
 
 impl Standing {
-    pub fn new(form: Form) -> Standing
-        ensures { λ r. ⌜ (r ≡ start form) × StandingReady r ⌝ }
+    pub fn new(sheet: Sheet, form: Form) -> Standing
+        requires { ⌜ InRange sheet ⌝ }
+        ensures { λ r. ⌜ (r ≡ start sheet form) × StandingReady r ⌝ }
     {
         Standing {
             plan: Plan {
@@ -44,7 +47,7 @@ impl Standing {
                 seconds: 0,
             },
             next: 0,
-            book: Book::new(),
+            book: Book::new(sheet),
             tally: Tally::new(),
             verdict: Verdict::Accepted,
         }

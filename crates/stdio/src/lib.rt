@@ -5,8 +5,10 @@ use libc::STDIN_FILENO;
 use libc::STDOUT_FILENO;
 use pieces::Reading;
 use report::Form;
+use sheet::Sheet;
 ghost use Prim.Native.Nat.{_≤_};
 ghost use lib.ListN.{length};
+ghost use Rattle.sheet.specs.Sheet.{InRange};
 ghost use Rattle.pieces.specs.Pieces.{ReadingReady, pieceSize, pieceRoom};
 ghost use Rattle.stdio.specs.Turns.{After, AfterSome};
 
@@ -127,10 +129,12 @@ fn finish(last: Turn, out: &mut [u8])
     }
 }
 
-// Prints the book on standard input.
-pub fn print_book(form: Form) {
+// Prints the book on standard input under a sheet whose figures are in range.
+pub fn print_book(sheet: Sheet, form: Form)
+    requires { ⌜ InRange sheet ⌝ }
+{
     let mut bytes = [0; pieces::PIECE];
     let mut out = [0; pieces::PIECE_ROOM];
-    let last = turns(Reading::new(form), &mut bytes, &mut out);
+    let last = turns(Reading::new(sheet, form), &mut bytes, &mut out);
     finish(last, &mut out);
 }

@@ -6,10 +6,14 @@
 
 use reference::maker::book_bytes;
 use reference::plant::{Kind, Plant};
-use reference::power::{Band, GRAINS};
+use reference::power::Band;
 use reference::record::Record;
+use reference::sheet::Sheet;
 use std::io::Write;
 use std::process::{Command, Stdio};
+
+/// The guide's figures here are counted in 540ths of a kW, grains: each is a whole number of them.
+const GRAINS: i64 = 540;
 
 /// Grains as kW with two places, without them where there are none; thousands apart.
 fn kw(grains: i64) -> String {
@@ -147,14 +151,15 @@ fn table_4_1() {
 
 fn figure_6_1() {
     println!("### Figure 6-1: tolerance after one change, by age\n");
-    println!("| age (s) | guide, % of the change | guide, 540ths | ours, grains a kW |");
+    println!("| age (s) | guide, % of the change | guide, 540ths | ours, 540ths |");
     println!("|---:|---:|---:|---:|");
     for age in 0..=31 {
         let guide = guide_fcr_weights(age);
         let percent: Vec<String> = guide.iter().map(|weight| kw(weight * 100)).collect();
         let parts: Vec<String> = guide.iter().map(|weight| weight.to_string()).collect();
-        let weight = if age <= 30 { reference::fcr::weight(1, age) } else { 0 };
-        println!("| {} | {} | {} | {} |", age, percent.join(" and "), parts.join(" and "), weight);
+        let weight = reference::fcr::weight(1, age, &Sheet::default()).times(GRAINS);
+        assert_eq!(weight.down(), weight.up(), "a whole number of 540ths");
+        println!("| {} | {} | {} | {} |", age, percent.join(" and "), parts.join(" and "), weight.down());
     }
     println!();
 }
@@ -189,38 +194,48 @@ fn figure_6_3() {
     println!();
 }
 
+/// The guide's recursion (lines 278 to 288) for a step at a second, in grains: the limits of each second. The least range is its
+/// "minimale Angebotsgröße", 5 MW.
+fn guide_afrr_limits(step: i64, at: i64, seconds: i64, least_range: i64) -> Vec<(i64, i64)> {
+    let s = |t: i64| if t < at { 0 } else { step * GRAINS };
+    let floor = step * GRAINS / 20;
+    let (mut low, mut high) = (0, 0);
+    let mut limits = Vec::new();
+    for t in 0..seconds {
+        let past: Vec<i64> = (t - 300..=t - 30).map(s).collect();
+        let range = past.iter().max().unwrap() - past.iter().min().unwrap();
+        let gradient = range.max(least_range * GRAINS) / 270;
+        let reaction: Vec<i64> = (t - 30..=t - 1).map(s).collect();
+        high = (*reaction.iter().max().unwrap()).max(high - gradient).max(s(t) + floor);
+        low = (*reaction.iter().min().unwrap()).min(low + gradient).min(s(t) - floor);
+        limits.push((low, high));
+    }
+    limits
+}
+
 fn figure_6_6() {
     const AT: i64 = 400;
+    const SECONDS: i64 = AT + 341;
     let step = 100_000;
     println!("### Figure 6-6: aFRR, one change\n");
     println!("Inputs: aFRR held up 100,000 kW, held down 0; setpoint 0 up to age -1, 100,000 kW from age 0 on.\n");
-    println!("| age (s) | setpoint | guide's band | ours |");
-    println!("|---:|---:|---:|---:|");
+    println!("| age (s) | setpoint | guide's band | the same with 1,000 kW | ours |");
+    println!("|---:|---:|---:|---:|---:|");
     let kinds = kinds(
         1,
-        (0..=AT + 340).map(|now| Record {
+        (0..SECONDS).map(|now| Record {
             afrr_held_up: step as i32,
             afrr_setpoint: if now < AT { 0 } else { step as i32 },
             status: 2,
             ..Record::default()
         }),
     );
-    // the guide's recursion (lines 278 to 288), over the same setpoints, in grains
-    let s = |t: i64| if t < AT { 0 } else { step * GRAINS };
-    let floor = step * GRAINS / 20;
-    let (mut low, mut high) = (0, 0);
-    for t in 0..=AT + 340 {
-        let past: Vec<i64> = (t - 300..=t - 30).map(s).collect();
-        let range = past.iter().max().unwrap() - past.iter().min().unwrap();
-        let gradient = range.max(5_000 * GRAINS) / 270;
-        let reaction: Vec<i64> = (t - 30..=t - 1).map(s).collect();
-        high = (*reaction.iter().max().unwrap()).max(high - gradient).max(s(t) + floor);
-        low = (*reaction.iter().min().unwrap()).min(low + gradient).min(s(t) - floor);
-        let age = t - AT;
-        if [-1, 0, 1, 29, 30, 31, 60, 120, 180, 240, 270, 285, 286, 287, 299, 300, 301, 330].contains(&age) {
-            let kind = kinds[t as usize];
-            println!("| {} | {} | {} to {} | {} |", age, apart(kind.setpoint), kw(low), kw(high), ours(kind));
-        }
+    let guide = guide_afrr_limits(step, AT, SECONDS, 5_000);
+    let default = guide_afrr_limits(step, AT, SECONDS, Sheet::default().least_range);
+    for age in [-1, 0, 1, 29, 30, 31, 60, 120, 180, 240, 270, 285, 286, 287, 298, 299, 300, 301, 330] {
+        let t = (AT + age) as usize;
+        let [guide, default] = [guide[t], default[t]].map(|(low, high)| format!("{} to {}", kw(low), kw(high)));
+        println!("| {} | {} | {} | {} | {} |", age, apart(kinds[t].setpoint), guide, default, ours(kinds[t]));
     }
     println!();
 }

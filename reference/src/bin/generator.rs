@@ -3,7 +3,9 @@
 //! `generator seeds` says how many seeds in a row make every broken case; `generator short-example` writes the shipped book;
 //! `generator meters SEED COUNT` writes records of meters, `generator meter-contents SEED COUNT` says what is among them;
 //! `generator cut SEED` writes a count and a book to be cut there, `generator cut-name SEED` says what that is,
-//! `generator cut-contents SEED COUNT` what is among those of COUNT seeds.
+//! `generator cut-contents SEED COUNT` what is among those of COUNT seeds; `generator sheet SEED` writes a sheet and a book,
+//! `generator sheet-name SEED` says what that is, `generator sheet-seeds` how many seeds in a row make every case of it,
+//! `generator sheet-contents SEED COUNT` what is among those of COUNT seeds.
 
 use reference::maker::book_bytes;
 use reference::maker::cut_contents;
@@ -12,12 +14,15 @@ use reference::maker::example;
 use reference::maker::families::{long, make, seeds_for_all, Made, WHOLE};
 use reference::maker::meter_contents::counted;
 use reference::maker::meters::records;
+use reference::maker::sheet_contents;
+use reference::maker::sheets;
 use std::io::{self, Write};
 use std::process::exit;
 
 const USAGE: &str = "generator SEED [FAMILY [SECONDS]] | generator name SEED [FAMILY] | generator families | \
     generator seeds | generator short-example | generator meters SEED COUNT | generator meter-contents SEED COUNT | \
-    generator cut SEED | generator cut-name SEED | generator cut-contents SEED COUNT";
+    generator cut SEED | generator cut-name SEED | generator cut-contents SEED COUNT | generator sheet SEED | \
+    generator sheet-name SEED | generator sheet-seeds | generator sheet-contents SEED COUNT";
 
 fn book(arguments: &[String]) -> Result<Made, String> {
     let seed: u64 = arguments.first().and_then(|seed| seed.parse().ok()).ok_or(USAGE)?;
@@ -42,12 +47,24 @@ fn cut(arguments: &[String]) -> Result<cuts::Input, String> {
     numbers(arguments).map(|[seed]| cuts::make(seed))
 }
 
-/// A line for each thing that is wanted of cut books: in how many of them it is, in how many it must be, and what it is.
+fn sheet(arguments: &[String]) -> Result<sheets::Input, String> {
+    numbers(arguments).map(|[seed]| sheets::make_input(seed))
+}
+
+/// A line for each thing that is wanted of inputs: in how many of them it is, in how many it must be, and what it is.
+fn lines_of(counted: Vec<(String, usize, usize)>) -> Vec<u8> {
+    let lines = counted.into_iter().map(|(name, least, count)| format!("{} {} {}\n", count, least, name));
+    lines.collect::<String>().into_bytes()
+}
+
 fn contents_of_cuts(arguments: &[String]) -> Result<Vec<u8>, String> {
     let [first, count] = numbers(arguments)?;
-    let counted = cut_contents::counted((first..first + count).map(|seed| cuts::make(seed).bytes));
-    let lines = counted.into_iter().map(|(name, least, count)| format!("{} {} {}\n", count, least, name));
-    Ok(lines.collect::<String>().into_bytes())
+    Ok(lines_of(cut_contents::counted((first..first + count).map(|seed| cuts::make(seed).bytes))))
+}
+
+fn contents_of_sheets(arguments: &[String]) -> Result<Vec<u8>, String> {
+    let [first, count] = numbers(arguments)?;
+    Ok(lines_of(sheet_contents::counted((first..first + count).map(|seed| sheets::make_input(seed).bytes))))
 }
 
 /// A line for each thing that is wanted: how many records have it, and what it is.
@@ -67,6 +84,10 @@ fn main() {
         Some("cut") => cut(&arguments[1..]).map(|input| input.bytes),
         Some("cut-name") => cut(&arguments[1..]).map(|input| (input.name + "\n").into_bytes()),
         Some("cut-contents") => contents_of_cuts(&arguments[1..]),
+        Some("sheet") => sheet(&arguments[1..]).map(|input| input.bytes),
+        Some("sheet-name") => sheet(&arguments[1..]).map(|input| (input.name + "\n").into_bytes()),
+        Some("sheet-seeds") => Ok(format!("{}\n", sheets::seeds_for_all()).into_bytes()),
+        Some("sheet-contents") => contents_of_sheets(&arguments[1..]),
         Some("name") => book(&arguments[1..]).map(|made| (made.name + "\n").into_bytes()),
         _ => book(&arguments).map(|made| made.bytes),
     };

@@ -6,7 +6,7 @@ use crate::cut::{moved_back, COUNT};
 use crate::line::NAMES;
 use crate::mfrr::{Phase, PLACES};
 use crate::plant::{Plant, FAULT, KINDS, MOST_SECONDS};
-use crate::power::{Limits, GRAINS};
+use crate::power::Limits;
 use crate::program::{for_each_second, Stop};
 use crate::record::{self, Record};
 
@@ -82,8 +82,8 @@ const PARTS: [(&str, fn(&mut Plant)); 6] = [
 fn rounded(limits: Limits) -> Limits {
     let band = limits.published();
     Limits {
-        low: band.low * GRAINS,
-        high: band.high * GRAINS,
+        low: band.low.into(),
+        high: band.high.into(),
     }
 }
 

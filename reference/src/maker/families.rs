@@ -3,8 +3,10 @@
 use super::book_bytes;
 use super::broken;
 use super::random::Random;
-use super::tracks::{seconds, Calls, End, Errors, Faults, Mover, Ninth, Switch, Track, Values, EXACT_EDGES};
+use super::tracks::{seconds, seconds_from, Calls, End, Errors, Faults, Mover, Ninth, Switch, Track, Values, EXACT_EDGES};
+use crate::book::Book;
 use crate::record::Record;
+use crate::sheet::Sheet;
 use std::array;
 
 /// A made book: what it is, its bytes, and for a broken one what refuses it: number and seconds accepted.
@@ -44,6 +46,13 @@ pub fn seeds_for_all() -> u64 {
 
 /// The book of a seed, of the family given or of the one that the seed chooses.
 pub fn make(seed: u64, family: Option<&str>) -> Result<Made, String> {
+    make_under(&Sheet::default(), seed, family)
+}
+
+/// The same under a sheet, so that changes come about its times and errors about the bands that it gives. A second that is
+/// accepted under one sheet is so under all.
+pub fn make_under(sheet: &Sheet, seed: u64, family: Option<&str>) -> Result<Made, String> {
+    let open = Book::open(*sheet).map_err(|number| format!("{} for {:?}", number, sheet))?;
     let (family, turn, owner) = match family {
         None => chosen(seed),
         Some("edges") => (WHOLE[2 + (seed % 6) as usize], seed / 6, (seed % 8) as u8),
@@ -53,16 +62,16 @@ pub fn make(seed: u64, family: Option<&str>) -> Result<Made, String> {
     let (mut tracks, count): ([Track; 3], i64) = match family {
         "calm" if turn % 3 == 0 => (array::from_fn(|_| calm_call(&mut random)), random.within(2_700, 3_600)),
         "calm" => (array::from_fn(|_| calm(&mut random)), random.within(200, 1_500)),
-        "storm" => return Ok(storm(turn, owner, &mut random)),
+        "storm" => return Ok(storm(open, turn, owner, &mut random)),
         "edge-calls" => (
             array::from_fn(|plant| edge_calls(3 * turn as usize + plant, &mut random)),
             random.within(2_750, 3_700) + if turn % 3 == 0 { 950 } else { 0 },
         ),
         "edge-fcr" => {
             let count = if turn % 2 == 0 { random.within(905, 1_400) } else { random.within(100, 600) };
-            (array::from_fn(|_| edge_fcr(&mut random)), count)
+            (array::from_fn(|_| edge_fcr(sheet, &mut random)), count)
         }
-        "edge-afrr" => (array::from_fn(|_| edge_afrr(&mut random)), random.within(700, 1_500)),
+        "edge-afrr" => (array::from_fn(|_| edge_afrr(sheet, &mut random)), random.within(700, 1_500)),
         "edge-ranges" => {
             let count = if turn % 2 == 0 { random.within(1, 9) } else { random.within(900, 2_000) };
             (array::from_fn(|_| edge_ranges(&mut random)), count)
@@ -70,11 +79,17 @@ pub fn make(seed: u64, family: Option<&str>) -> Result<Made, String> {
         "edge-shares" => (array::from_fn(|_| edge_shares(&mut random)), random.within(50, 1_000)),
         "edge-switches" => (array::from_fn(|_| edge_switches(&mut random)), random.within(1_900, 4_600)),
         "wild" => (array::from_fn(|_| wild(&mut random)), random.within(50, 2_000)),
+        "sheet" => {
+            let is_long = turn % 4 == 0;
+            let count = if is_long { random.within(1_850, 2_800) } else { random.within(700, 1_500) };
+            let place = |plant: usize| (plant as u64 + turn / 4) % 3;
+            (array::from_fn(|plant| about_sheet(sheet, place(plant), is_long, &mut random)), count)
+        }
         "broken" => return Ok(broken::make(turn, owner, &mut random)),
         "long" => return Ok(long(seed, 90_000)),
         other => return Err(format!("no family {}", other)),
     };
-    let seconds = seconds(owner, &mut tracks, count as usize, &mut random);
+    let seconds = seconds_from(open, owner, &mut tracks, count as usize, &mut random);
     Ok(Made {
         name: family.to_string(),
         bytes: book_bytes(owner, &seconds),
@@ -134,7 +149,7 @@ fn calm_call(random: &mut Random) -> Track {
 }
 
 /// Overlapping calls; in two of three books one plant asks for a ninth leftover.
-fn storm(turn: u64, owner: u8, random: &mut Random) -> Made {
+fn storm(open: Book, turn: u64, owner: u8, random: &mut Random) -> Made {
     let mut tracks: [Track; 3] = array::from_fn(|_| {
         let (least, most) = random.pick(&[(1, 1), (1, 60), (1, 120), (60, 200), (200, 1_300)]);
         Track {
@@ -170,7 +185,7 @@ fn storm(turn: u64, owner: u8, random: &mut Random) -> Made {
         }
     };
     let count = random.within(1_200, 2_600) as usize;
-    let mut seconds = seconds(owner, &mut tracks, count, random);
+    let mut seconds = seconds_from(open, owner, &mut tracks, count, random);
     if turn % 3 != 0 {
         // what stands after the refused second is not looked at
         let more = random.index(6);
@@ -212,8 +227,10 @@ const DEVIATIONS: &[i64] = &[
     0, 8, 9, -9, 10, -10, 11, -11, 50, -50, 100, -100, 101, 198, 199, -199, 200, -200, 201, -201, 5_000, -5_000,
 ];
 
-/// Changes of FCR at ages around 15 and 30, and the ends of its formula; some while FCR is off before a quarter hour.
-fn edge_fcr(random: &mut Random) -> Track {
+/// Changes of FCR at ages around the reaction time and twice that, 15 and 30, and the ends of its formula; some while FCR is off
+/// before a quarter hour.
+fn edge_fcr(sheet: &Sheet, random: &mut Random) -> Track {
+    let (r, w) = (sheet.fcr_reaction, sheet.fcr_time());
     Track {
         fcr_held: match random.index(4) {
             0 => Mover::fixed(400),
@@ -222,10 +239,10 @@ fn edge_fcr(random: &mut Random) -> Track {
             _ => Mover::new(Values::Walk(30, 0, 2_000), &[1, 5]).starting_at(900),
         },
         deviation: match random.index(4) {
-            0 => Mover::new(Values::Choice(DEVIATIONS), &[14, 15, 16, 17, 29, 30, 31, 32]),
-            1 => Mover::new(Values::Choice(DEVIATIONS), &[1, 2, 15, 16, 30]),
+            0 => Mover::new(Values::Choice(DEVIATIONS), [r - 1, r, r + 1, r + 2, w - 1, w, w + 1, w + 2]),
+            1 => Mover::new(Values::Choice(DEVIATIONS), [1, 2, r, r + 1, w]),
             2 => Mover::new(Values::Uniform(-220, 220), &[1]),
-            _ => Mover::new(Values::Choice(&[0, 50]), &[16, 31, 47]),
+            _ => Mover::new(Values::Choice(&[0, 50]), [r + 1, w + 1, r + w + 2]),
         },
         up: Mover::fixed(random.pick(&[0, 100, 500])),
         switches: [random.pick(&[Switch::On, Switch::Failing]), Switch::On, Switch::On],
@@ -235,8 +252,9 @@ fn edge_fcr(random: &mut Random) -> Track {
     }
 }
 
-/// Changes of aFRR around the ends of its windows, with differences around 5,000 kW.
-fn edge_afrr(random: &mut Random) -> Track {
+/// Changes of aFRR around the ends of its windows, with differences around the least range, 1,000 kW.
+fn edge_afrr(sheet: &Sheet, random: &mut Random) -> Track {
+    let q = sheet.afrr_reaction;
     Track {
         fcr_held: Mover::fixed(random.pick(&[0, 400])),
         up: match random.index(3) {
@@ -246,8 +264,11 @@ fn edge_afrr(random: &mut Random) -> Track {
         },
         down: Mover::new(Values::Choice(&[0, 19, 21, 334, 6_000, 9_000]), &[50, 301]),
         afrr: match random.index(5) {
-            0 => Mover::new(Values::Choice(&[0, 10_000, -10_000, 100]), &[29, 30, 31, 269, 270, 271, 299, 300, 301, 302]),
-            1 => Mover::new(Values::Choice(&[0, 4_999, 5_000, 5_001, -1, 1]), &[1, 29, 30, 31, 270, 300, 301]),
+            0 => Mover::new(
+                Values::Choice(&[0, 10_000, -10_000, 100]),
+                [q - 1, q, q + 1, 299 - q, 300 - q, 301 - q, 299, 300, 301, 302],
+            ),
+            1 => Mover::new(Values::Near(sheet.least_range), [1, q - 1, q, q + 1, 300 - q, 300, 301]),
             2 => Mover::new(Values::Uniform(-12_000, 12_000), &[1]),
             3 => Mover::new(Values::Walk(2_500, -1_000_000, 1_000_000), &[1, 2, 28]),
             _ => Mover::new(Values::Uniform(-1_000_000, 1_000_000), &[40, 330, 400]),
@@ -324,6 +345,42 @@ fn edge_switches(random: &mut Random) -> Track {
         faults: random.pick(&[Faults::Never, Faults::BitAlone, Faults::BitAlone, Faults::Anywhere(300), Faults::BeforeQuarters]),
         errors: random.pick(&[Errors::Noise(200), Errors::AtBands, Errors::Measured(Values::Uniform(-900, 900))]),
         next_call: random.within(0, 100),
+        ..Track::still()
+    }
+}
+
+/// Every figure of a sheet at once: changes about its times, held powers of any whole kW, calls one into the other; in long
+/// books two plants have a single call, which comes to its ramp down. The plants' places in turn say which of them has what.
+fn about_sheet(sheet: &Sheet, place: u64, is_long: bool, random: &mut Random) -> Track {
+    let (r, w, q) = (sheet.fcr_reaction, sheet.fcr_time(), sheet.afrr_reaction);
+    let most = random.pick(&[3_000, 30_000]);
+    let held = Values::Uniform(0, most);
+    Track {
+        fcr_held: Mover::new(held, &[150, 400]),
+        deviation: match random.index(3) {
+            0 => Mover::new(Values::Uniform(-210, 210), [1, r, r + 1, w, w + 1]),
+            1 => Mover::new(Values::Uniform(-210, 210), [r, r + 1, w, w + 1, w + 20]),
+            _ => Mover::new(Values::Walk(30, -210, 210), &[1, 2]),
+        },
+        up: Mover::new(held, &[100, 300]),
+        down: Mover::new(held, &[100, 301]),
+        afrr: match random.index(2) {
+            _ if place == 0 => Mover::new(Values::Near(sheet.least_range), [q, q + 1, 40, 300 - q, 300, 301]),
+            0 => Mover::new(Values::Uniform(-most, most), [q, q + 1, 80, 300 - q, 300, 301]),
+            _ => Mover::new(Values::Walk(most / 4, -most, most), &[1, 3, 50]),
+        },
+        working_point: Mover::new(Values::Uniform(-most, most), &[90]),
+        calls: match place {
+            1 if is_long => Calls::Once(0),
+            2 if is_long => Calls::Once(random.within(1, 899)),
+            _ => random.pick(&[Calls::Every(60, 600), Calls::Every(300, 1_500)]),
+        },
+        targets: Values::Uniform(-most, most),
+        ends: if is_long { End::First } else { random.pick(&[End::First, End::Any]) },
+        switches: array::from_fn(|_| random.pick(&[Switch::On, Switch::Failing, Switch::Sometimes])),
+        faults: random.pick(&[Faults::BitAlone, Faults::Anywhere(400), Faults::BeforeQuarters]),
+        errors: random.pick(&[Errors::AtBands, Errors::AtBands, Errors::Noise(900)]),
+        next_call: random.within(0, 300),
         ..Track::still()
     }
 }

@@ -1,4 +1,4 @@
-//! Books, books that are cut, and records of meters, by seed, for comparing programs.
+//! Books, books that are cut, books under sheets, and records of meters, by seed, for comparing programs.
 
 pub mod broken;
 pub mod cut_contents;
@@ -8,6 +8,8 @@ pub mod families;
 pub mod meter_contents;
 pub mod meters;
 pub mod random;
+pub mod sheet_contents;
+pub mod sheets;
 pub mod tracks;
 
 use crate::block::{self, write_block, write_header};

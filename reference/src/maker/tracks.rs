@@ -17,24 +17,30 @@ pub enum Values {
     Fixed(i64),
     Choice(&'static [i64]),
     Uniform(i64, i64),
+    /// A power or one beside it, or 0 or one beside it.
+    Near(i64),
     /// A step of at most so much up or down, never 0, between two ends.
     Walk(i64, i64, i64),
+}
+
+fn near(power: i64) -> [i64; 6] {
+    [0, power - 1, power, power + 1, -1, 1]
 }
 
 /// A figure that takes a new value every so many seconds.
 #[derive(Clone)]
 pub struct Mover {
     values: Values,
-    gaps: &'static [i64],
+    gaps: Vec<i64>,
     value: i64,
     next: i64,
 }
 
 impl Mover {
-    pub fn new(values: Values, gaps: &'static [i64]) -> Mover {
+    pub fn new(values: Values, gaps: impl Into<Vec<i64>>) -> Mover {
         Mover {
             values,
-            gaps,
+            gaps: gaps.into(),
             value: 0,
             next: 0,
         }
@@ -57,11 +63,12 @@ impl Mover {
 
     fn at(&mut self, now: i64, random: &mut Random) -> i64 {
         if now >= self.next {
-            self.next = now + random.pick(self.gaps);
+            self.next = now + random.pick(&self.gaps);
             self.value = match self.values {
                 Values::Fixed(value) => value,
                 Values::Choice(list) => random.pick(list),
                 Values::Uniform(lowest, highest) => random.within(lowest, highest),
+                Values::Near(power) => random.pick(&near(power)),
                 Values::Walk(most, lowest, highest) => {
                     let step = random.within(1, most);
                     let up = random.once_in(2);
@@ -271,6 +278,7 @@ impl Track {
             Values::Fixed(value) => value,
             Values::Choice(list) => random.pick(list),
             Values::Uniform(lowest, highest) => random.within(lowest, highest),
+            Values::Near(power) => random.pick(&near(power)),
             Values::Walk(most, lowest, highest) => {
                 // near what the signal gives now
                 (plant.mfrr.setpoint(now) + random.within(-most, most)).clamp(lowest, highest)
@@ -330,7 +338,7 @@ impl Track {
         let end = self.delivery_end(now, plant, random);
         let target = self.target(now, plant, random);
         if !self.on[2] {
-            let called = plant.mfrr.called(now, target, end);
+            let called = plant.mfrr.called(now, target, end, &plant.sheet);
             if !called.is_ok_and(|signal| signal.stays_zero(now, 900 - now % 900)) {
                 return;
             }
@@ -403,7 +411,7 @@ impl Track {
                 Values::Choice(list) => random.pick(list),
                 Values::Uniform(lowest, highest) => random.within(lowest, highest),
                 Values::Fixed(value) => value,
-                Values::Walk(..) => 0,
+                Values::Near(..) | Values::Walk(..) => 0,
             } as i32;
             return;
         }
@@ -439,9 +447,13 @@ fn limits_of(plant: &mut Plant, accepted: Accepted) -> [Limits; 3] {
     limits
 }
 
-/// The seconds of a book, until one would be refused (which is then the last) or there are `count`.
+/// The seconds of a book under the default sheet, until one would be refused (which is then the last) or there are `count`.
 pub fn seconds(owner: u8, tracks: &mut [Track; 3], count: usize, random: &mut Random) -> Vec<Second> {
-    let mut book = Book::default();
+    seconds_from(Book::default(), owner, tracks, count, random)
+}
+
+/// The same from an open book on.
+pub fn seconds_from(mut book: Book, owner: u8, tracks: &mut [Track; 3], count: usize, random: &mut Random) -> Vec<Second> {
     let mut seconds = Vec::new();
     while seconds.len() < count {
         let [unit_track, a_track, b_track] = tracks;

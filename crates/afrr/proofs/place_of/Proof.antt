@@ -1,24 +1,30 @@
 -- `afrr::place_of` meets its contract. The invariant: what is looked for is not among the places passed. Assumes nothing.
 use mathlib.Core.Path.{_≡_, sym, _∙_}
-use Prim.Native.Nat.{_≤_, _-_, _+_}
+use Prim.Native.Nat.{_≤_, _-_}
 use native.Mathlib.Omega.{arith}
 use borrow.Author.Needs.{needs}
-use Rattle.afrr.specs.Band.{window, reaction}
+use Rattle.sheet.specs.Sheet.{window}
 use Rattle.afrr.proofs.Places.{Passed, none-passed, found, one-more, nowhere}
 use Rattle.afrr.proofs.place_of.Statement.{statement}
 use Rattle.afrr.proofs.place_of.Tie as tie
 
 abbrev Inv-loop : tie.InvT-loop
-Inv-loop v past i₀ i = (i ≤ window - reaction + 1) × Passed (v .0) past i
+Inv-loop v past first i₀ end i = (i ≤ window - first) × Passed first (v .0) past i
 
 abbrev μ-loop : tie.MeasureT-loop
-μ-loop v past i₀ i = window - reaction + 1 - i
+μ-loop v past first i₀ end i = window - first - i
+
+cast-first : tie.Need-cast-first Inv-loop μ-loop
+cast-first c = search needs
+
+sub-first : tie.Need-sub-first Inv-loop μ-loop
+sub-first c = search needs
+
+sub-i-end : tie.Need-sub-i-end Inv-loop μ-loop
+sub-i-end c = search needs
 
 loop-holds : tie.Need-loop-holds Inv-loop μ-loop
-loop-holds c = (search needs, none-passed _ _)
-
-sub-k : tie.Need-sub-k Inv-loop μ-loop
-sub-k c = search needs
+loop-holds c = let g = c .before .args in (search needs, none-passed (g .sheet .«afrr_reaction» - 1) (g .v .0) (g .t2))
 
 add-k : tie.Need-add-k Inv-loop μ-loop
 add-k c = search needs
@@ -35,7 +41,7 @@ is-at-requires c κs = search needs
 returns : tie.Need-returns Inv-loop μ-loop
 returns c =
     let l = c .before .before .before .before in
-    found _ _ (l .loop .i) (l .loop .inv .1) (search needs) (sym (c .before .is-at .ensures) ∙ c .if1 .taken)
+    found _ _ _ (l .loop .i) (l .loop .inv .1) (search needs) (sym (c .before .is-at .ensures) ∙ c .if1 .taken)
 
 add-i : tie.Need-add-i Inv-loop μ-loop
 add-i c = search needs
@@ -46,19 +52,16 @@ loop-less c = search needs
 loop-again : tie.Need-loop-again Inv-loop μ-loop
 loop-again c =
     let l = c .before .before .before .before in
-    (search needs, one-more _ _ (l .loop .i) (l .loop .inv .1) (search needs) (sym (c .before .is-at .ensures) ∙ c .if1 .left))
+    (search needs, one-more _ _ _ (l .loop .i) (l .loop .inv .1) (search needs) (sym (c .before .is-at .ensures) ∙ c .if1 .left))
 
 sub-result : tie.Need-sub-result Inv-loop μ-loop
 sub-result c = search needs
 
-add-result : tie.Need-add-result Inv-loop μ-loop
-add-result c = search needs
-
 returns-2 : tie.Need-returns-2 Inv-loop μ-loop
 returns-2 c =
     let l = c .before in
-    let e : l .loop .i ≡ window - reaction + 1 = omega arith in
-    sym e ∙ nowhere _ _ (l .loop .i) (l .loop .inv .1) (omega arith)
+    let e : l .loop .i ≡ window - (l .before .before .args .sheet .«afrr_reaction» - 1) = omega arith in
+    sym e ∙ nowhere _ _ _ (l .loop .i) (l .loop .inv .1) (omega (arith, l .before .before .pre .afrr-most))
 
 pub place-of-spec : {M : Type 1} → statement M
 place-of-spec =
@@ -66,8 +69,10 @@ place-of-spec =
     (tie.spec
     Inv-loop
     μ-loop
+    cast-first
+    sub-first
+    sub-i-end
     loop-holds
-    sub-k
     add-k
     mul-k
     array-copy-out-k
@@ -77,5 +82,4 @@ place-of-spec =
     loop-less
     loop-again
     sub-result
-    add-result
     returns-2)

@@ -7,16 +7,16 @@ use Rattle.check_operations.proofs.after_blank.Statement.{statement}
 use Rattle.check_operations.proofs.after_blank.Tie as tie
 
 abbrev Inv-loop : tie.InvT-loop
-Inv-loop seconds blank state₀ t₀ state t = (t ≤ seconds) × Ready state
+Inv-loop sheet seconds blank state₀ t₀ state t = (t ≤ seconds) × Ready sheet state
 
 abbrev μ-loop : tie.MeasureT-loop
-μ-loop seconds blank state₀ t₀ state t = seconds - t
+μ-loop sheet seconds blank state₀ t₀ state t = seconds - t
 
 new-requires : tie.Need-new-requires Inv-loop μ-loop
 new-requires c κs = search needs
 
 loop-holds : tie.Need-loop-holds Inv-loop μ-loop
-loop-holds c = (omega arith, c .new .ensures .1)
+loop-holds c = let s = c .before in (omega arith, c .new .ensures (s .args .sheet) (s .pre) .1)
 
 slice-aggregate-second : tie.Need-slice-aggregate-second Inv-loop μ-loop
 slice-aggregate-second c = search needs

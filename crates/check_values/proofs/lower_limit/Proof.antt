@@ -8,6 +8,8 @@ use lib.ListN.{replicate}
 use borrow.Author.Needs.{needs}
 use Rattle.numbers.proofs.Fit.{within-lit}
 use Rattle.power.specs.Units.{mostReserve}
+use Rattle.sheet.specs.declared.Sheet.{Sheet}
+use Rattle.sheet.specs.Sheet.{InRange}
 use Rattle.afrr.specs.declared.Second.{Second}
 use Rattle.afrr.specs.declared.AfrrState.{AfrrState}
 use Rattle.afrr.specs.declared.AfrrStep.{AfrrStep}
@@ -22,11 +24,11 @@ abbrev x : Second
 x = tenThousand
 
 -- the answer to the second after the past h
-abbrev answer : List Second → AfrrStep
-answer h = record { band = bandAt h x; state = stateOf (x ∷ h) }
+abbrev answer : Sheet → List Second → AfrrStep
+answer sh h = record { band = bandAt sh h x; state = stateOf sh (x ∷ h) }
 
-follows : (h : List Second) (st : AfrrState) (r : AfrrStep) → st ≡ stateOf h → r ≡ stepIn st x → r ≡ answer h
-follows h st r e f = f ∙ ap (λ (t : AfrrState). stepIn t x) e ∙ claims .follows h x
+follows : (sh : Sheet) → InRange sh → (h : List Second) (st : AfrrState) (r : AfrrStep) → st ≡ stateOf sh h → r ≡ stepIn sh st x → r ≡ answer sh h
+follows sh i h st r e f = f ∙ ap (λ (t : AfrrState). stepIn sh t x) e ∙ claims .follows sh i h x
 
 fair : Fair x
 fair =
@@ -39,45 +41,58 @@ fair =
     }
 
 abbrev Inv-loop : tie.InvT-loop
-Inv-loop second x₀ step₀ t₀ step t = (t ≤ second) × Ready (step .state) × (step ≡ answer (replicate t x))
+Inv-loop second sheet x₀ step₀ t₀ step t = (t ≤ second) × Ready sheet (step .state) × (step ≡ answer sheet (replicate t x))
 
 abbrev μ-loop : tie.MeasureT-loop
-μ-loop second x₀ step₀ t₀ step t = second - t
+μ-loop second sheet x₀ step₀ t₀ step t = second - t
+
+first-sheet-requires : tie.Need-first-sheet-requires Inv-loop μ-loop
+first-sheet-requires c κs = search needs
 
 new-requires : tie.Need-new-requires Inv-loop μ-loop
 new-requires c κs = search needs
 
 step-requires : tie.Need-step-requires Inv-loop μ-loop
-step-requires c κs = (c .new .ensures .1, fair)
+step-requires c κs = (c .before .first-sheet .ensures .1, c .new .ensures .ready _, fair)
 
 loop-holds : tie.Need-loop-holds Inv-loop μ-loop
-loop-holds c = (omega arith, c .step .ensures .ready, follows [] _ _ (c .before .new .ensures .0) (c .step .ensures .is))
+loop-holds c =
+    let e = c .step .ensures in
+    (omega arith, e .ready, follows _ (c .before .before .first-sheet .ensures .1) [] _ _ (c .before .new .ensures .is _) (e .is))
 
 step-requires-2 : tie.Need-step-requires-2 Inv-loop μ-loop
-step-requires-2 c κs = (c .before .before .loop .inv .1, fair)
+step-requires-2 c κs =
+    let l = c .before .before in
+    (l .before .before .before .first-sheet .ensures .1, l .loop .inv .1, fair)
 
 add-t : tie.Need-add-t Inv-loop μ-loop
-add-t c = search needs
+add-t c =
+    let l = c .before .before in
+    record { fits = omega (arith, l .loop-test .taken, l .before .before .before .before .before .fits) }
 
 loop-less : tie.Need-loop-less Inv-loop μ-loop
 loop-less c = search needs
 
 loop-again : tie.Need-loop-again Inv-loop μ-loop
 loop-again c =
-    let l = c .before .before .before .loop in
+    let b = c .before .before .before in
+    let l = b .loop in
+    let i = b .before .before .before .first-sheet .ensures .1 in
     let held-past = ap (λ (t : AfrrStep). t .state) (l .inv .2) in (
       omega arith,
       c .step2 .ensures .ready,
-      rw (add-one (l .t)) (follows (replicate (suc (l .t)) x) _ _ held-past (c .step2 .ensures .is)),
+      rw (add-one (l .t)) (follows _ i (replicate (suc (l .t)) x) _ _ held-past (c .step2 .ensures .is)),
     )
 
 returns : tie.Need-returns Inv-loop μ-loop
 returns c =
-    let l = c .before .before .before .loop in
-    let e : l .t ≡ c .before .before .before .before .before .before .args .second = omega arith in
-    (λ i. l .inv .2 i .band .low .0) ∙ ap lowerAt e
+    let b = c .before .before .before in
+    let l = b .loop in
+    let f = b .before .before .before in
+    let e : l .t ≡ f .before .args .second = omega arith in
+    (λ i. l .inv .2 i .band .low .0) ∙ (λ i. lowerAt (f .first-sheet .ensures .0 i) (e i))
 
 pub lower-limit-spec : {M : Type 1} → statement M
 lower-limit-spec =
     tie.close
-    (tie.spec Inv-loop μ-loop new-requires step-requires loop-holds step-requires-2 add-t loop-less loop-again returns)
+    (tie.spec Inv-loop μ-loop first-sheet-requires new-requires step-requires loop-holds step-requires-2 add-t loop-less loop-again returns)

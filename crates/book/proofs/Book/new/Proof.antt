@@ -1,4 +1,8 @@
 -- `book::Book::new` meets its contract. Assumes nothing.
+use mathlib.Core.Path.{_≡_}
+use Rattle.sheet.specs.declared.Sheet.{Sheet}
+use Rattle.plant.specs.declared.PlantState.{PlantState}
+use Rattle.plant.specs.State as plant
 use Rattle.book.specs.State.{fresh}
 use Rattle.book.proofs.Sizes.{sums-none}
 use borrow.Author.Needs.{needs}
@@ -19,20 +23,15 @@ no-sums-requires c κs = search needs
 
 returns : tie.Need-returns
 unfolding fresh
-returns c = (
-  λ i. record {
-    unit = c .before .before .before .new .ensures .0 i;
-    a = c .before .before .new2 .ensures .0 i;
-    b = c .before .new3 .ensures .0 i;
-    sums = c .no-sums .ensures i;
-  },
-  record {
-    unit = c .before .before .before .new .ensures .1;
-    a = c .before .before .new2 .ensures .1;
-    b = c .before .new3 .ensures .1;
-    sums = rw (c .no-sums .ensures) (sums-none _);
-  },
-)
+returns c =
+    let s = c .before .before .before .before in
+    let sh = s .args .sheet in
+    let u = c .before .before .before .new .ensures sh (s .pre) in
+    let a = c .before .before .new2 .ensures sh (s .pre) in
+    let b = c .before .new3 .ensures sh (s .pre) in (
+      λ i. record { sheet = sh; unit = u .0 i; a = a .0 i; b = b .0 i; sums = c .no-sums .ensures i },
+      record { unit = u .1; a = a .1; b = b .1; sums = rw (c .no-sums .ensures) (sums-none _) },
+    )
 
 pub new-spec : {M : Type 1} → statement M
 new-spec = tie.close (tie.spec new-requires new-requires-2 new-requires-3 no-sums-requires returns)

@@ -28,9 +28,9 @@ asked s =
 
 module _ (p : tie.After-second-with) where
   abbrev start : tie.Start
-  start = p .before .before .before .before
+  start = p .before .before .before .before .before
 
-  abbrev unit-answered : Answered (asked start .book .unit) (asked start .unit) (pos 0) (pos 0)
+  abbrev unit-answered : Answered (asked start .book .sheet) (asked start .book .unit) (asked start .unit) (pos 0) (pos 0)
   unit-answered = record { step = p .second-with .result; stepped = p .second-with .ensures }
 
 -- after the unit's record
@@ -67,7 +67,7 @@ module _ (t : tie.After-second-with2) where
         small = t .before .added-to .ensures .1;
       }
 
-  abbrev a-answered : Answered (book-at at-a .book .a) (book-at at-a .a) (a-added .sum) (point (unit-given at-a))
+  abbrev a-answered : Answered (book-at at-a .book .sheet) (book-at at-a .book .a) (book-at at-a .a) (a-added .sum) (point (unit-given at-a))
   a-answered = record { step = t .second-with2 .result; stepped = t .second-with2 .ensures }
 
 -- after B's step
@@ -95,7 +95,7 @@ module _ (t : tie.After-second-with3) where
         small = t .before .added-to2 .ensures .1;
       }
 
-  abbrev b-answered : Answered (book-at in-b .book .b) (book-at in-b .b) (b-added .sum) (point (unit-given in-b))
+  abbrev b-answered : Answered (book-at in-b .book .sheet) (book-at in-b .book .b) (book-at in-b .b) (b-added .sum) (point (unit-given in-b))
   b-answered = record { step = t .second-with3 .result; stepped = t .second-with3 .ensures }
 
 -- after all three rows

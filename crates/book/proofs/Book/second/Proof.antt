@@ -69,7 +69,7 @@ returns-2 : tie.Need-returns-2
 returns-2 c =
     let i = c .before .before .before .before in
     let l = long i in
-    stepped _ _ _ (c .plants .result) (sym (i .before .form-number .ensures) ∙ i .if1 .left)
+    stepped _ _ _ (i .before .before .before .pre) (c .plants .result) (sym (i .before .form-number .ensures) ∙ i .if1 .left)
     (record { unit-part = refl; a-part = refl; b-part = to-the-end (bytes i) l (length (bytes i) - 72) (omega arith) }) (c .plants .ensures)
 
 pub second-spec : {M : Type 1} → statement M

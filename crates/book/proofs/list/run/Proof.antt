@@ -1,12 +1,11 @@
 -- `book::list::run` meets its contract. The invariant: the book after the whole list is the book now, carried over the rest. Assumes nothing.
-use mathlib.Core.Path.{_≡_, ap, sym, _∙_}
+use mathlib.Core.Path.{_≡_, refl, ap, sym, _∙_}
 use Prim.Native.Nat.{_≤_, _-_}
 use native.Mathlib.Omega.{arith}
 use borrow.Author.Needs.{needs}
 use lib.ListN.{length, drop}
-use Rattle.book.specs.declared.Book.{Book}
 use Rattle.book.specs.declared.BookStep.{BookStep}
-use Rattle.book.specs.State.{Ready, fresh}
+use Rattle.book.specs.State.{Ready}
 use Rattle.book.specs.Run.{bookAfter}
 use Rattle.book.specs.List.{listedIn}
 use Rattle.book.proofs.Listed.{seconds-at, seconds-none, after-cons, after-none, ran}
@@ -14,16 +13,13 @@ use Rattle.book.proofs.list.run.Statement.{statement}
 use Rattle.book.proofs.list.run.Tie as tie
 
 abbrev Inv-loop : tie.InvT-loop
-Inv-loop list book₀ at₀ book at = (at ≤ length list) × Ready book × (bookAfter fresh (listedIn list) ≡ bookAfter book (listedIn (drop at list)))
+Inv-loop list book₀ at₀ book at = (at ≤ length list) × Ready book × (bookAfter book₀ (listedIn list) ≡ bookAfter book (listedIn (drop at list)))
 
 abbrev μ-loop : tie.MeasureT-loop
 μ-loop list book₀ at₀ book at = length list - at
 
-new-requires : tie.Need-new-requires Inv-loop μ-loop
-new-requires c κs = search needs
-
 loop-holds : tie.Need-loop-holds Inv-loop μ-loop
-loop-holds c = (omega arith, c .new .ensures .1, ap (λ (k : Book). bookAfter k (listedIn (c .before .before .args .list .now))) (sym (c .new .ensures .0)))
+loop-holds c = (omega arith, search needs, refl)
 
 shared-slice-read-owner : tie.Need-shared-slice-read-owner Inv-loop μ-loop
 shared-slice-read-owner c = search needs
@@ -52,7 +48,7 @@ loop-less c = search needs
 loop-again : tie.Need-loop-again Inv-loop μ-loop
 loop-again c =
     let i = c .before .before .before .before .before .before .before in
-    let l = i .before .before .before .args .list .now in
+    let l = i .before .before .args .list .now in
     let from = c .before .before .before .before .part-start .result in
     let end = c .before .before .before .part-end .result in (
       omega arith,
@@ -65,9 +61,9 @@ loop-again c =
 
 returns : tie.Need-returns Inv-loop μ-loop
 returns c =
-    let l = c .before .before .before .before .args .list .now in
+    let l = c .before .before .before .args .list .now in
     let i = c .before .loop in
-    ran (listedIn l) (i .book) (i .inv .2 ∙ ap (bookAfter (i .book)) (seconds-none l (i .at) (omega arith)) ∙ after-none (i .book))
+    ran _ (c .before .before .before .pre) (listedIn l) (i .book) (i .inv .2 ∙ ap (bookAfter (i .book)) (seconds-none l (i .at) (omega arith)) ∙ after-none (i .book))
 
 pub run-spec : {M : Type 1} → statement M
 run-spec =
@@ -75,7 +71,6 @@ run-spec =
     (tie.spec
     Inv-loop
     μ-loop
-    new-requires
     loop-holds
     shared-slice-read-owner
     part-start-requires

@@ -4,6 +4,7 @@ use native.Mathlib.Omega.{arith}
 use lib.IntN.{ℤ}
 use Rattle.power.specs.declared.kilowatts.Kw.{Kw}
 use Rattle.power.specs.declared.limits.Band.{Band}
+use Rattle.sheet.specs.declared.Sheet.{Sheet}
 use Rattle.record.specs.declared.KindBits.{KindBits}
 use Rattle.record.specs.declared.Record.{Record}
 use Rattle.record.specs.Record.{bitsOf}
@@ -27,6 +28,9 @@ module _ (s : tie.Start) where
   abbrev self : PlantState
   self = s .args .self
 
+  abbrev sheet-of : Sheet
+  sheet-of = s .args .sheet
+
   abbrev record-of : Record
   record-of = s .args .x
 
@@ -36,7 +40,7 @@ module _ (s : tie.Start) where
   abbrev added-point : ℤ
   added-point = s .args .added-point .0
 
-  record-passed : RecordPassed self record-of added-measured added-point
+  record-passed : RecordPassed sheet-of self record-of added-measured added-point
   record-passed =
       record { ready = s .pre .0; passed = passed (self .seconds) (self .«last_status») record-of (s .pre .2); added = s .pre .1 }
 
@@ -60,7 +64,7 @@ returns c =
     let p = c .before .before .before .before in
     let s = p .before .before in
     rw (c .refused .ensures)
-    (call-refused (self s) (record-of s) (added-measured s) (added-point s) (record-passed s) (p .step .result) (p .step .ensures)
+    (call-refused (sheet-of s) (self s) (record-of s) (added-measured s) (added-point s) (record-passed s) (p .step .result) (p .step .ensures)
     (c .before .before .enum-told .given .1) (c .before .number-in .ensures))
 
 -- ---- mFRR gave its setpoint and band: 11, or the row
@@ -81,14 +85,14 @@ module _ (t : tie.After-known-told) where
   abbrev band-at : Band
   band-at = t .before .given .given .0 .1 .0
 
-  called : CallPassed (self start) record-at setpoint-at band-at (called-at .step .result .state) (added-measured start) (added-point start)
+  called : CallPassed (sheet-of start) (self start) record-at setpoint-at band-at (called-at .step .result .state) (added-measured start) (added-point start)
   called =
-      call-passed (self start) record-at (added-measured start) (added-point start) (record-passed start) (called-at .step .result) (called-at .step .ensures)
+      call-passed (sheet-of start) (self start) record-at (added-measured start) (added-point start) (record-passed start) (called-at .step .result) (called-at .step .ensures)
       (t .before .given .given .1)
 
-  stepped-with : (r : PlantStep) → KindsStepped (self start) record-at setpoint-at band-at (called-at .step .result .state) (added-measured start) (added-point start) r → CallStepped (self start) record-at (added-measured start) (added-point start) r
+  stepped-with : (r : PlantStep) → KindsStepped (sheet-of start) (self start) record-at setpoint-at band-at (called-at .step .result .state) (added-measured start) (added-point start) r → CallStepped (sheet-of start) (self start) record-at (added-measured start) (added-point start) r
   stepped-with r q =
-      call-given (self start) record-at (added-measured start) (added-point start) (record-passed start) (called-at .step .result) (called-at .step .ensures)
+      call-given (sheet-of start) (self start) record-at (added-measured start) (added-point start) (record-passed start) (called-at .step .result) (called-at .step .ensures)
       (t .before .given .given .1) r q
 
 -- 11 by the record's own bits
@@ -119,12 +123,13 @@ returns-2 c =
     let o = c .before .before in
     let t = told-at o in
     rw (c .refused2 .ensures)
-    (stepped-with t _ (refused _ _ _ _ _ _ _ (called t) (set-at o .setpoints-of .ensures) (off-is o) (c .before .if1 .taken)))
+    (stepped-with t _ (refused _ _ _ _ _ _ _ _ (called t) (set-at o .setpoints-of .ensures) (off-is o) (c .before .if1 .taken)))
 
 step-requires-2 : tie.Need-step-requires-2
 step-requires-2 c κs =
     let s = set-at (c .before) in
     let p = called (s .before) .record-passed in (
+      p .ready .sheet,
       p .ready .fcr,
       record {
         setpoint-range = rw (s .setpoints-of .ensures) (setpoint-within _ (record-at (s .before) .deviation .0) (p .passed .fcr-held .range));
@@ -140,7 +145,7 @@ step-requires-3 : tie.Need-step-requires-3
 step-requires-3 c κs =
     let t = told-at (c .before .before .before) in
     let p = called t .record-passed in
-    (p .ready .afrr, rw (c .afrr-second .ensures) (afrr-second-fair (self (start t) .seconds) (record-at t) (p .passed)))
+    (p .ready .sheet, p .ready .afrr, rw (c .afrr-second .ensures) (afrr-second-fair (self (start t) .seconds) (record-at t) (p .passed)))
 
 kinds-of-requires : tie.Need-kinds-of-requires
 kinds-of-requires c κs = search needs
@@ -153,7 +158,7 @@ module _ (l : tie.After-kinds-of) where
   given-at = told-at (cleared .before)
 
   kinds-given :
-      KindsGiven (self (start given-at)) (record-at given-at) (setpoint-at given-at) (band-at given-at) _ _ _ (called given-at)
+      KindsGiven (sheet-of (start given-at)) (self (start given-at)) (record-at given-at) (setpoint-at given-at) (band-at given-at) _ _ _ (called given-at)
       (set-at (cleared .before) .setpoints-of .result)
       (l .before .before .before .step2 .result)
       (l .before .step3 .result)
@@ -164,7 +169,7 @@ module _ (l : tie.After-kinds-of) where
         passed-11 = sym (off-is (cleared .before)) ∙ cleared .if1 .left;
         fcr = l .before .before .before .step2 .ensures;
         afrr =
-            subst (λ (y : Second). afrr.Stepped (self (start given-at) .afrr) y (l .before .step3 .result)) (l .before .before .afrr-second .ensures)
+            subst (λ (y : Second). afrr.Stepped (sheet-of (start given-at)) (self (start given-at) .afrr) y (l .before .step3 .result)) (l .before .before .afrr-second .ensures)
             (l .before .step3 .ensures);
         kinds = l .kinds-of .ensures;
       }
@@ -172,16 +177,16 @@ module _ (l : tie.After-kinds-of) where
 row-with-requires : tie.Need-row-with-requires
 row-with-requires c κs =
     let l = c .before .before .before in
-    shareable _ _ _ _ _ _ _ (called (given-at l)) (kinds-given l)
+    shareable _ _ _ _ _ _ _ _ (called (given-at l)) (kinds-given l)
 
-add-t23 : tie.Need-add-t23
-add-t23 c = let t = given-at (c .before .before .before .before .before) in omega (arith, called t .record-passed .passed .seconds)
+add-t24 : tie.Need-add-t24
+add-t24 c = let t = given-at (c .before .before .before .before .before) in omega (arith, called t .record-passed .passed .seconds)
 
 returns-3 : tie.Need-returns-3
 returns-3 c =
     let l = c .before .before .before .before .before in
     let t = given-at l in
-    stepped-with t _ (accepted _ _ _ _ _ _ _ (called t) (kinds-given l) (c .before .row-with .result) (c .before .row-with .ensures))
+    stepped-with t _ (accepted _ _ _ _ _ _ _ _ (called t) (kinds-given l) (c .before .row-with .result) (c .before .row-with .ensures))
 
 pub second-of-spec : {M : Type 1} → statement M
 second-of-spec =
@@ -203,5 +208,5 @@ second-of-spec =
     step-requires-3
     kinds-of-requires
     row-with-requires
-    add-t23
+    add-t24
     returns-3)

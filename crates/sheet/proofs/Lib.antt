@@ -1,0 +1,4 @@
+pub mod Sizes
+pub mod Ranges
+pub mod Values
+pub mod Claims
