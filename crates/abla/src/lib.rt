@@ -1,4 +1,6 @@
 // AbLa, interruptible loads: setpoint and band, second by second (02, W10; 004, lines 354 to 378).
+#![tactic(auto)]
+
 mod fifths;
 mod load;
 mod refusal;
@@ -17,13 +19,13 @@ pub use refusal::{MOST_POWER, is_nonzero};
 pub use stage::Stage;
 
 // What a second needs of those before it: the stage of the newest one, and what a call takes from it as its ramp's lower end.
-#[derive(Drop)]
+#[derive(Clone, Copy)]
 pub struct AblaState {
     pub stage: Stage,
     pub before: Grains,
 }
 
-#[derive(Drop)]
+#[derive(Clone, Copy)]
 pub enum AblaAnswer {
     // The setpoint, and the band as published.
     Given { setpoint: Kw, band: Band },
@@ -31,7 +33,7 @@ pub enum AblaAnswer {
     Refused(u8),
 }
 
-#[derive(Drop)]
+#[derive(Clone, Copy)]
 pub struct AblaStep {
     pub answer: AblaAnswer,
     pub state: AblaState,

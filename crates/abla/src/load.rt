@@ -7,7 +7,7 @@ ghost use Rattle.abla.specs.State.{Fields, Fair};
 use crate::fifths::{fifth_of, in_fifths};
 use power::{Grains, Kw, Limits};
 
-#[derive(Drop)]
+#[derive(Clone, Copy)]
 pub struct LoadSecond {
     // The reported minimum consumption; consumption is negative.
     pub minimum: Kw,

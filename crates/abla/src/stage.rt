@@ -16,7 +16,7 @@ const QUARTER_HOUR: u32 = 900;
 const HOUR: u32 = 3600;
 
 // The stage of the newest second. Times are relative to it, so that they stay as they are when seconds are counted anew.
-#[derive(Drop)]
+#[derive(Clone, Copy)]
 pub enum Stage {
     // No second was accepted yet.
     Blank,

@@ -1,4 +1,6 @@
 // The book second (01, "Book second"): the unit first, then A, then B; and a whole lent list of book seconds.
+#![tactic(auto)]
+
 mod list;
 mod sums;
 mod unit;
@@ -22,7 +24,7 @@ use sums::{due_in, with_second};
 use unit::{added_to, others};
 
 // The plants of a book.
-#[derive(Drop)]
+#[derive(Clone, Copy)]
 pub enum Plant {
     U,
     A,
@@ -30,7 +32,7 @@ pub enum Plant {
 }
 
 // The sheet, the states of the three plants, and the kept sums.
-#[derive(Drop)]
+#[derive(Clone, Copy)]
 pub struct Book {
     pub sheet: Sheet,
     pub unit: PlantState,
@@ -40,35 +42,35 @@ pub struct Book {
 }
 
 // The rows of U, A and B; a refusal number that names no plant; or a plant's number.
-#[derive(Drop)]
+#[derive(Clone, Copy)]
 pub enum BookAnswer {
     Rows { unit: Row, a: Row, b: Row },
     Refused(u8),
     RefusedBy { plant: Plant, number: u8 },
 }
 
-#[derive(Drop)]
+#[derive(Clone, Copy)]
 pub struct BookStep {
     pub answer: BookAnswer,
     pub book: Book,
 }
 
 // The book opens, or the refusal number.
-#[derive(Drop)]
+#[derive(Clone, Copy)]
 pub enum OpenAnswer {
     Opened,
     Refused(u8),
 }
 
 // What a handover gives: the next book, or the closing one as it was.
-#[derive(Drop)]
+#[derive(Clone, Copy)]
 pub struct HandOver {
     pub answer: OpenAnswer,
     pub book: Book,
 }
 
 // What opening gives: a fresh book under the sheet; beside a refusal one under the default sheet, which nobody asked for.
-#[derive(Drop)]
+#[derive(Clone, Copy)]
 pub struct BookOpening {
     pub answer: OpenAnswer,
     pub book: Book,

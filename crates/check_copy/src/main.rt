@@ -1,5 +1,7 @@
 // Writes the book on standard input anew, block after block, up to the first that the reader refuses (02, W1); seconds are not judged. The
 // copy of a book with nothing wrong in its form is the book (specs/Claims.antt).
+#![tactic(auto)]
+
 ghost use Rattle.std.specs.Prelude.{◌≡◌, ◌≤◌};
 ghost use Rattle.record.specs.Record.{most_seconds};
 ghost use Rattle.block.specs.Header.{header_says};

@@ -1,5 +1,7 @@
 // For the gate alone (02, W7): reads a count of 4 bytes, the lowest first, and a book; prints the book's rows, handed over before that second is
 // judged, and the sum line of each part, under the default sheet. What is printed is `cut_printed` of crate `cut`. A read or write that fails ends it.
+#![tactic(auto)]
+
 ghost use Rattle.std.specs.Prelude.{◌≡◌, true, ◌≤◌, length};
 ghost use Rattle.record.specs.Record.{most_seconds};
 ghost use Rattle.block.specs.Places.{block_size};
@@ -22,14 +24,14 @@ use tally::Tally;
 const ROOM: usize = block::PER_BLOCK * 4 * line::ROW_ROOM;
 
 // What the header gives; a refused one has no blocks.
-#[derive(Drop)]
+#[derive(Clone, Copy)]
 struct Opening {
     plan: Plan,
     verdict: Verdict,
 }
 
 // Where it stands after a block, and whether its text could be sent.
-#[derive(Drop)]
+#[derive(Clone, Copy)]
 struct Turn {
     cut: Cut,
     sent: bool,

@@ -1,4 +1,6 @@
 // What the operations answer where no book can lead: one line each. Those of the writers: writers.rt.
+#![tactic(auto)]
+
 mod writers;
 
 ghost use Rattle.std.specs.Prelude.{◌≡◌, ◌<◌};

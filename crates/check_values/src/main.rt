@@ -1,4 +1,6 @@
 // The values to hold of FCR and aFRR in document 01, "Values to hold", by stepping their states under document 01's figures.
+#![tactic(auto)]
+
 ghost use Rattle.std.specs.Prelude.{◌≡◌};
 ghost use Rattle.sheet.specs.Sheet.{first_figures, InRange};
 ghost use Rattle.fcr.specs.Values.{fall_tolerance};

@@ -16,7 +16,7 @@ pub(crate) const ROOM: usize = RECORDS * 14;
 const RECORDS: usize = 256;
 
 // After a piece: `used` bytes of text are in the buffer, and `filled` bytes of a record begun stand at the front.
-#[derive(Drop)]
+#[derive(Clone, Copy)]
 pub(crate) struct Taken {
     pub used: usize,
     pub filled: usize,

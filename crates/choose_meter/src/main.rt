@@ -1,5 +1,7 @@
 // Reads records of meters from standard input and prints what choosing answers (02, W6), a line each: `0` and the deviation in mHz, or the refusal
 // number; 12 for a last record that is cut short. What is printed is `printed` of specs/Printed.antt.
+#![tactic(auto)]
+
 mod lines;
 mod records;
 
@@ -13,14 +15,14 @@ use libc::{STDERR_FILENO, STDIN_FILENO, STDOUT_FILENO};
 const MOST_TURNS: u64 = 0xffff_ffff_ffff_ffff;
 
 // After a turn: more is to be read, the input has ended, or something failed.
-#[derive(Drop)]
+#[derive(Clone, Copy)]
 enum Next {
     Read,
     Finish,
     Stop,
 }
 
-#[derive(Drop)]
+#[derive(Clone, Copy)]
 struct Turn {
     next: Next,
     filled: usize,

@@ -1,5 +1,7 @@
 // The seconds of a book that is handed over once, before second `at` is judged (02, W7): up to there they are run as in every book, from there on
 // in the next book, with the delivery ends of their calls in its seconds.
+#![tactic(auto)]
+
 ghost use Rattle.std.specs.Prelude.{◌≡◌, ◌+◌, ◌≤◌, length};
 ghost use Rattle.codec.specs.Put.{Put};
 ghost use Rattle.record.specs.Record.{size, book_size, moved_back};
@@ -18,7 +20,7 @@ use report::{Plan, Run, TextLine, Verdict};
 use tally::Tally;
 
 // Where it stands: the run of the book that is open, and whether that one was handed over.
-#[derive(Drop)]
+#[derive(Clone, Copy)]
 pub struct Cut {
     pub run: Run,
     pub handed: bool,

@@ -1,6 +1,8 @@
 // The lines of a book as text (01, "Blocks and text"), into a buffer that the caller lends. A buffer with too little room gets 22
 // and stays as it was; else the answer is the line's length and the bytes past the line stay (specs/Lined.antt). And numbers for lines of other
 // crates.
+#![tactic(auto)]
+
 mod book_lines;
 mod number;
 mod row_lines;
@@ -20,7 +22,7 @@ pub use short_lines::{plant_counts, plant_short};
 const TOO_SMALL: u8 = 22;
 
 // What a line writer answers: the line's length, or 22.
-#[derive(Drop)]
+#[derive(Clone, Copy)]
 pub enum Answer {
     Length(usize),
     Refused(u8),

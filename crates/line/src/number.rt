@@ -9,7 +9,7 @@ use power::{Kw, Millihertz};
 use row::KwSeconds;
 
 // A signed number of either width, to be printed.
-#[derive(Drop)]
+#[derive(Clone, Copy)]
 struct Number(i64);
 
 fn glyph(d: u64) -> u8

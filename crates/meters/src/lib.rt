@@ -1,4 +1,6 @@
 // Frequency meters with binary32 output (02, W6): which meter of up to four counts, and its deviation in whole mHz.
+#![tactic(auto)]
+
 mod binary32;
 mod deviation;
 
@@ -14,7 +16,7 @@ use power::Millihertz;
 pub const MOST_METERS: usize = 4;
 
 // What a meter sends, in Hz.
-#[derive(Drop)]
+#[derive(Clone, Copy)]
 pub enum Reading {
     Frequency(f32),
     Deviation(f32),
@@ -22,13 +24,13 @@ pub enum Reading {
 }
 
 // A reading and the meter's stated accuracy in Hz.
-#[derive(Drop)]
+#[derive(Clone, Copy)]
 pub struct Meter {
     pub reading: Reading,
     pub accuracy: f32,
 }
 
-#[derive(Drop)]
+#[derive(Clone, Copy)]
 pub enum MeterAnswer {
     Deviation(Millihertz),
     Refused(u8),

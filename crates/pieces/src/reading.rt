@@ -19,7 +19,7 @@ pub const PIECE_ROOM: usize = (PIECE_BLOCKS + 2) * 3 * line::ROW_ROOM * block::P
 const PIECE_BLOCKS: usize = 32;
 
 // Where a book stands as its bytes come: `filled` bytes of the next block are in `part`.
-#[derive(Drop)]
+#[derive(Clone, Copy)]
 pub struct Reading {
     pub standing: Standing,
     pub part: [u8; block::SIZE],
@@ -27,7 +27,7 @@ pub struct Reading {
 }
 
 // Where it stands after a piece, with `used` bytes of text in the buffer.
-#[derive(Drop)]
+#[derive(Clone, Copy)]
 pub struct Taken {
     pub reading: Reading,
     pub used: usize,

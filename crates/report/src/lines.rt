@@ -11,7 +11,7 @@ use row::{PlantCounts, Row, Sums};
 use tally::Tally;
 
 // The lines that are printed.
-#[derive(Drop)]
+#[derive(Clone, Copy)]
 pub enum TextLine {
     Second {
         second: u32,

@@ -12,7 +12,7 @@ use book::{Book, BookAnswer};
 use tally::Tally;
 
 // How a book is run: the form of its lines, and what its header gives.
-#[derive(Drop)]
+#[derive(Clone, Copy)]
 pub struct Plan {
     pub form: Form,
     pub owner: u8,
@@ -20,7 +20,7 @@ pub struct Plan {
 }
 
 // All accepted so far, or the number of the refusal that ends the text.
-#[derive(Drop)]
+#[derive(Clone, Copy)]
 pub enum Verdict {
     Accepted,
     Refused(u8),
@@ -28,7 +28,7 @@ pub enum Verdict {
 
 // Where a run stands: what is kept of the accepted seconds, which is the book and how often each kind stood outside its band; `used` bytes of the
 // buffer wait to be written.
-#[derive(Drop)]
+#[derive(Clone, Copy)]
 pub struct Run {
     pub book: Book,
     pub tally: Tally,

@@ -1,4 +1,6 @@
 // Prints the book on standard input, a line a second, then the sum line or the refusal (01, "Blocks and text").
+#![tactic(auto)]
+
 use report::Form;
 use sheet::default_sheet;
 

@@ -1,4 +1,6 @@
 // Prints the book on standard input with every figure of every row, then the sum line or the refusal.
+#![tactic(auto)]
+
 use report::Form;
 use sheet::default_sheet;
 

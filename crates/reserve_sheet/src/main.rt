@@ -1,5 +1,7 @@
 // Prints the book on standard input with every figure of every row, as `reserve_rows` does, under the sheet whose 16 bytes stand before it; or why that
 // sheet is turned down. What is printed is `sheet_printed` of specs/Printed.antt.
+#![tactic(auto)]
+
 ghost use Rattle.std.specs.Prelude.{◌≡◌, ◌≤◌, length};
 ghost use Rattle.line.specs.Widths.{row_room};
 ghost use Rattle.reserve_sheet.specs.Form.{sheet_size, sheet_of, spare_set, figure_out, form_number, IsRead};
@@ -16,7 +18,7 @@ const SIZE: usize = 16;
 const ROOM: usize = line::ROW_ROOM;
 
 // The figures, which are in range; or the refusal number.
-#[derive(Drop)]
+#[derive(Clone, Copy)]
 pub enum SheetReading {
     Figures(Sheet),
     Refused(u8),

@@ -7,7 +7,7 @@ use crate::KindRow;
 use power::Kw;
 
 // Within the band, or below or above it by so many kW.
-#[derive(Drop)]
+#[derive(Clone, Copy)]
 pub enum BandSide {
     Within,
     Below(u32),
@@ -15,19 +15,19 @@ pub enum BandSide {
 }
 
 // The seconds on one side of the band, and their kW added up.
-#[derive(Drop)]
+#[derive(Clone, Copy)]
 pub struct SideCount {
     pub seconds: u32,
     pub kw_seconds: u64,
 }
 
-#[derive(Drop)]
+#[derive(Clone, Copy)]
 pub struct KindCounts {
     pub below: SideCount,
     pub above: SideCount,
 }
 
-#[derive(Drop)]
+#[derive(Clone, Copy)]
 pub struct PlantCounts {
     pub fcr: KindCounts,
     pub afrr: KindCounts,

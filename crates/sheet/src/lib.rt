@@ -1,4 +1,6 @@
 // The sheet of figures that a book opens with (02, W9), the rule that turns one down, and how many grains make a kW under it.
+#![tactic(auto)]
+
 ghost use Rattle.std.specs.Prelude.{◌≡◌};
 ghost use Rattle.power.specs.Units.{Divides};
 ghost use Rattle.sheet.specs.Sheet.{percent_out, range_out, fcr_reaction_out, afrr_reaction_out, sheet_number, InRange, per_kw, factor, default_sheet};
@@ -22,7 +24,7 @@ const MOST_AFRR_REACTION: u32 = 60;
 pub const WINDOW: u32 = 300;
 
 // The figures of a book.
-#[derive(Drop)]
+#[derive(Clone, Copy)]
 pub struct Sheet {
     // FCR's and aFRR's floor: the tolerance that is always there, in percent of held.
     pub fcr_floor: u32,

@@ -1,5 +1,7 @@
 // A book block after block: the header, the later blocks with the number next in turn, and bytes after the last; then the last line (01, "Blocks and
 // text"). A `Standing` says where the book stands between two blocks. Bytes that come in pieces are crate `pieces`.
+#![tactic(auto)]
+
 ghost use Rattle.std.specs.Prelude.{◌+◌, ◌≤◌, ◌≡◌, true, length};
 ghost use Rattle.sheet.specs.Sheet.{InRange};
 ghost use Rattle.record.specs.Record.{most_seconds};
@@ -16,7 +18,7 @@ use tally::Tally;
 
 // Where a book stands between two of its blocks: `next` is the number of the block next in turn, 0 for the header. Before the header the plan
 // has no seconds, so that block 0 is the last one due.
-#[derive(Drop)]
+#[derive(Clone, Copy)]
 pub struct Standing {
     pub plan: Plan,
     pub next: u32,
@@ -26,7 +28,7 @@ pub struct Standing {
 }
 
 // Where it stands after a block, with `used` bytes of text in the buffer.
-#[derive(Drop)]
+#[derive(Clone, Copy)]
 pub struct Advance {
     pub standing: Standing,
     pub used: usize,

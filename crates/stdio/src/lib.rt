@@ -1,5 +1,7 @@
 // The loop that reads a book from standard input, has it taken, and sends the text: the one part of a program that no contract can hold to what
 // is read and written (docs/READING.md). That it goes on from where the book stood is in its contracts (specs/Turns.antt).
+#![tactic(auto)]
+
 ghost use Rattle.std.specs.Prelude.{◌≤◌, length};
 ghost use Rattle.sheet.specs.Sheet.{InRange};
 ghost use Rattle.pieces.specs.Pieces.{ReadingReady, piece_size, piece_room};
@@ -14,14 +16,14 @@ use sheet::Sheet;
 const MOST_TURNS: usize = block::SIZE * (1 + record::MOST_SECONDS as usize) + 1;
 
 // After a turn: more is to be read, the last line is due, or something failed outside the book.
-#[derive(Drop)]
+#[derive(Clone, Copy)]
 enum Next {
     Read,
     Finish,
     Stop,
 }
 
-#[derive(Drop)]
+#[derive(Clone, Copy)]
 struct Turn {
     next: Next,
     reading: Reading,

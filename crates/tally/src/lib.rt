@@ -1,11 +1,13 @@
 // How often, and by how much, each kind of each plant stood outside its band: kept second after second beside a book.
+#![tactic(auto)]
+
 ghost use Rattle.std.specs.Prelude.{◌≡◌};
 ghost use Rattle.record.specs.Record.{most_seconds};
 ghost use Rattle.tally.specs.Tally.{zero, SideWithin, KindWithin, PlantWithin, TallyWithin, SideCounted, KindCounted, PlantCounted, TallyCounted};
 
 use row::{BandSide, KindCounts, KindRow, PlantCounts, Row, SideCount};
 
-#[derive(Drop)]
+#[derive(Clone, Copy)]
 pub struct Tally {
     pub unit: PlantCounts,
     pub a: PlantCounts,
