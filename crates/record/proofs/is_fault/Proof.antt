@@ -8,5 +8,5 @@ returns : tie.Need-returns
 unfolding fault_in
 returns c = refl
 
-pub is-fault-spec : {M : Type 1} → statement M
-is-fault-spec = tie.close (tie.spec returns)
+pub is_fault_spec : {M : Type 1} → statement M
+is_fault_spec = tie.close (tie.spec returns)

@@ -9,5 +9,5 @@ returns : tie.Need-returns
 unfolding default_sheet
 returns c = (refl, default_in_range)
 
-pub default-sheet-spec : {M : Type 1} → statement M
-default-sheet-spec = tie.close (tie.spec returns)
+pub default_sheet_spec : {M : Type 1} → statement M
+default_sheet_spec = tie.close (tie.spec returns)

@@ -12,16 +12,16 @@ use Rattle.codec.proofs.put.put_u16.Tie as tie
 low-requires : tie.Need-low-requires
 low-requires c κs = search rules
 
-put-byte-requires : tie.Need-put-byte-requires
+put-byte-requires : tie.Need-put_byte-at-requires
 put-byte-requires c κs = search rules
 
 low-requires-2 : tie.Need-low-requires-2
 low-requires-2 c κs = search rules
 
-put-byte-requires-2 : tie.Need-put-byte-requires-2
+put-byte-requires-2 : tie.Need-put_byte-requires
 put-byte-requires-2 c κs = search rules
 
-same_length : tie.Need-same-length
+same_length : tie.Need-shape_of-buf
 same_length c = search rules
 
 returns : tie.Need-returns
@@ -30,10 +30,10 @@ returns c =
     let p1 = p2.before.before.before.before.before in
     let n = p1.before.before.before.before.args.n in
     let top : n / 256 % 256 ≡ n / 256 = omega arith in
-    let bytes : (p1.before.low.result ∷ p2.before.low2.result ∷ []) ≡ le2 n = rw (p1.before.low.ensures, p2.before.low2.ensures, top) in
-    rw bytes at (both p1.put_byte.ensures p2.put-byte2.ensures)
+    let bytes : (p1.before.low.result ∷ p2.before.low-2.result ∷ []) ≡ le2 n = rw (p1.before.low.ensures, p2.before.low-2.ensures, top) in
+    rw bytes at (both p1.put_byte-at.ensures p2.put_byte.ensures)
 
-pub put-u16-spec : {M : Type 1} → statement M
-put-u16-spec =
+pub put_u16_spec : {M : Type 1} → statement M
+put_u16_spec =
     tie.close
     (tie.spec low-requires put-byte-requires low-requires-2 put-byte-requires-2 same_length returns)

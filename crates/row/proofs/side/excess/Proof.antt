@@ -9,7 +9,7 @@ use borrow.Author.Rules.{rules}
 use Rattle.row.proofs.side.excess.Statement.{statement}
 use Rattle.row.proofs.side.excess.Tie as tie
 
-module _ (s : tie.After-struct-told2) where
+module _ (s : tie.After-struct_told-2-1) where
   abbrev a : ℤ
   a = s.before.before.before.before.args.larger.0
 
@@ -29,15 +29,15 @@ module _ (s : tie.After-struct-told2) where
   b64 = search fit
 
   more : Excess a b
-  more = excess a b a32 b32 s.before.before.before.before.pre
+  more = excess a b a32 b32 s.before.before.before.before.requires
 
-cast-result : tie.Need-overflow-cast-result
+cast-result : tie.Need-overflow_cast-result
 cast-result c = search fit
 
-cast-result-2 : tie.Need-overflow-cast-result-2
+cast-result-2 : tie.Need-overflow_cast-result-2
 cast-result-2 c = search fit
 
-sub-result : tie.Need-overflow-sub-result
+sub-result : tie.Need-overflow_sub-result
 sub-result c =
     let fa = a32 c in
     let fb = b32 c in
@@ -46,7 +46,7 @@ sub-result c =
     let d = (more c).wide in
     simp to_z-of_z d
 
-cast-result-3 : tie.Need-overflow-cast-result-3
+cast-result-3 : tie.Need-overflow_cast-result-3
 cast-result-3 c =
     let fa = a32 c in
     let fb = b32 c in
@@ -64,5 +64,5 @@ returns c =
     let d = (more c).wide in
     simp to_z-of_z
 
-pub excess-spec : {M : Type 1} → statement M
-excess-spec = tie.close (tie.spec cast-result cast-result-2 sub-result cast-result-3 returns)
+pub excess_spec : {M : Type 1} → statement M
+excess_spec = tie.close (tie.spec cast-result cast-result-2 sub-result cast-result-3 returns)

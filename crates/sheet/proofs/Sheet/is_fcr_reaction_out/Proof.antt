@@ -4,13 +4,13 @@ use Rattle.sheet.specs.Sheet.{fcr_reaction_out}
 use Rattle.sheet.proofs.Sheet.is_fcr_reaction_out.Statement.{statement}
 use Rattle.sheet.proofs.Sheet.is_fcr_reaction_out.Tie as tie
 
-returns : tie.Need-returns
+returns : tie.Need-returns-then-self-lt-LEAST_FCR_REACTION
 unfolding fcr_reaction_out
 returns c = search (tests, either) depth 9
 
-returns-2 : tie.Need-returns-2
+returns-2 : tie.Need-returns
 unfolding fcr_reaction_out
 returns-2 c = search (tests, either) depth 9
 
-pub is-fcr-reaction-out-spec : {M : Type 1} → statement M
-is-fcr-reaction-out-spec = tie.close (tie.spec returns returns-2)
+pub is_fcr_reaction_out_spec : {M : Type 1} → statement M
+is_fcr_reaction_out_spec = tie.close (tie.spec returns returns-2)

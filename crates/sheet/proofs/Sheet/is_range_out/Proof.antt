@@ -4,12 +4,12 @@ use borrow.Author.Rules.{rules}
 use Rattle.sheet.proofs.Sheet.is_range_out.Statement.{statement}
 use Rattle.sheet.proofs.Sheet.is_range_out.Tie as tie
 
-is-outside-requires : tie.Need-is-outside-requires
+is-outside-requires : tie.Need-is_outside-requires
 is-outside-requires c κs = search rules
 
 returns : tie.Need-returns
 unfolding range_out
-returns c = c.is-outside.ensures
+returns c = c.is_outside.ensures
 
-pub is-range-out-spec : {M : Type 1} → statement M
-is-range-out-spec = tie.close (tie.spec is-outside-requires returns)
+pub is_range_out_spec : {M : Type 1} → statement M
+is_range_out_spec = tie.close (tie.spec is-outside-requires returns)
