@@ -4,14 +4,14 @@ use Rattle.numbers.proofs.Read.{is, same, carry}
 use Rattle.afrr.proofs.spread_over.Statement.{statement}
 use Rattle.afrr.proofs.spread_over.Tie as tie
 
-cast-t3 : tie.Need-overflow-cast-t3
+cast-t3 : tie.Need-overflow_cast-result
 cast-t3 c = search rules
 
-div-t4 : tie.Need-nonzero-div-t4
+div-t4 : tie.Need-nonzero_div-result
 div-t4 c = let p = c.before.before.requires in (p.0, carry p.1 (search is depth 16))
 
 returns : tie.Need-returns
 returns c = let f = c.before.before.requires.1 in search same depth 16
 
-pub spread-over-spec : {M : Type 1} → statement M
-spread-over-spec = tie.close (tie.spec cast-t3 div-t4 returns)
+pub spread_over_spec : {M : Type 1} → statement M
+spread_over_spec = tie.close (tie.spec cast-t3 div-t4 returns)

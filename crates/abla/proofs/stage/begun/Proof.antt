@@ -4,12 +4,12 @@ use borrow.Author.Rules.{rules}
 use Rattle.abla.proofs.stage.begun.Statement.{statement}
 use Rattle.abla.proofs.stage.begun.Tie as tie
 
-called-upper-requires : tie.Need-called-upper-requires
+called-upper-requires : tie.Need-called_upper-requires
 called-upper-requires c κs = search rules
 
 returns : tie.Need-returns
 unfolding begun_in
-returns c = rw c.called-upper.ensures
+returns c = rw c.called_upper.ensures
 
-pub begun-spec : {M : Type 1} → statement M
-begun-spec = tie.close (tie.spec called-upper-requires returns)
+pub begun_spec : {M : Type 1} → statement M
+begun_spec = tie.close (tie.spec called-upper-requires returns)

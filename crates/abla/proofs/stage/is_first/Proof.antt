@@ -5,13 +5,13 @@ use Rattle.abla.specs.State.{first_in}
 use Rattle.abla.proofs.stage.is_first.Statement.{statement}
 use Rattle.abla.proofs.stage.is_first.Tie as tie
 
-returns : tie.Need-returns
+returns : tie.Need-returns-then-class-ne-QUICK
 unfolding first_in is_quick
-returns c = rw (ne_eqb _ 1 c.if1.true)
+returns c = rw (ne_eqb _ 1 c.if-class-ne-QUICK.true)
 
-returns-2 : tie.Need-returns-2
+returns-2 : tie.Need-returns
 unfolding first_in is_quick
-returns-2 c = rw (eq-eqb _ 1 c.if1.false)
+returns-2 c = rw (eq-eqb _ 1 c.if-class-ne-QUICK.false)
 
-pub is-first-spec : {M : Type 1} → statement M
-is-first-spec = tie.close (tie.spec returns returns-2)
+pub is_first_spec : {M : Type 1} → statement M
+is_first_spec = tie.close (tie.spec returns returns-2)

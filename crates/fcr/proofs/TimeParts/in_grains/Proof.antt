@@ -6,19 +6,19 @@ use Rattle.fcr.proofs.Parts.{part_most, part_within, part_read}
 use Rattle.fcr.proofs.TimeParts.in_grains.Statement.{statement}
 use Rattle.fcr.proofs.TimeParts.in_grains.Tie as tie
 
-sub_part : tie.Need-overflow-sub-part
+sub_part : tie.Need-overflow_sub-part
 sub_part c = search rules
 
-mul-part : tie.Need-overflow-mul-part
+mul-part : tie.Need-overflow_mul-part
 mul-part c = search rules
 
-cast-t5 : tie.Need-overflow-cast-t5
+cast-t5 : tie.Need-overflow_cast-result
 cast-t5 c = search same
 
-cast-t6 : tie.Need-overflow-cast-t6
+cast-t6 : tie.Need-overflow_cast-result-2
 cast-t6 c = search rules
 
-mul-t7 : tie.Need-overflow-mul-t7
+mul-t7 : tie.Need-overflow_mul-result
 unfolding per_time_part
 mul-t7 c =
     let s = c.before.before.before in
@@ -33,5 +33,5 @@ returns c =
     let k = part_within s.args.sheet s.requires in
     search same depth 16
 
-pub in-grains-spec : {M : Type 1} → statement M
-in-grains-spec = tie.close (tie.spec sub_part mul-part cast-t5 cast-t6 mul-t7 returns)
+pub in_grains_spec : {M : Type 1} → statement M
+in_grains_spec = tie.close (tie.spec sub_part mul-part cast-t5 cast-t6 mul-t7 returns)

@@ -4,15 +4,15 @@ use borrow.Author.Rules.{rules}
 use Rattle.abla.proofs.load.LoadSecond.called.Statement.{statement}
 use Rattle.abla.proofs.load.LoadSecond.called.Tie as tie
 
-in-fifths-requires : tie.Need-in-fifths-requires
+in-fifths-requires : tie.Need-in_fifths-requires
 in-fifths-requires c κs = search rules
 
-called-upper-requires : tie.Need-called-upper-requires
+called-upper-requires : tie.Need-called_upper-requires
 called-upper-requires c κs = search rules
 
 returns : tie.Need-returns
 unfolding called
-returns c = rw (c.called-upper.ensures, c.before.in-fifths.ensures)
+returns c = rw (c.called_upper.ensures, c.before.in_fifths.ensures)
 
-pub called-spec : {M : Type 1} → statement M
-called-spec = tie.close (tie.spec in-fifths-requires called-upper-requires returns)
+pub called_spec : {M : Type 1} → statement M
+called_spec = tie.close (tie.spec in-fifths-requires called-upper-requires returns)

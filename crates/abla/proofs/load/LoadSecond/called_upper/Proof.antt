@@ -5,19 +5,19 @@ use borrow.Author.Rules.{rules}
 use Rattle.abla.proofs.load.LoadSecond.called_upper.Statement.{statement}
 use Rattle.abla.proofs.load.LoadSecond.called_upper.Tie as tie
 
-in-fifths-requires : tie.Need-in-fifths-requires
+in-fifths-requires : tie.Need-in_fifths-s-requires
 in-fifths-requires c κs = search rules
 
-fifth-of-requires : tie.Need-fifth-of-requires
+fifth-of-requires : tie.Need-fifth_of-requires
 fifth-of-requires c κs = search rules
 
 plus-requires : tie.Need-plus-requires
-plus-requires c κs = rw (c.fifth-of.ensures, c.before.in-fifths.ensures) (called_fits c.before.before.args.self c.before.before.requires)
+plus-requires c κs = rw (c.fifth_of.ensures, c.before.in_fifths-s.ensures) (called_fits c.before.before.args.self c.before.before.requires)
 
 returns : tie.Need-returns
 unfolding called_upper
-returns c = rw (c.plus.ensures, c.before.fifth-of.ensures, c.before.before.in-fifths.ensures)
+returns c = rw (c.plus.ensures, c.before.fifth_of.ensures, c.before.before.in_fifths-s.ensures)
 
-pub called-upper-spec : {M : Type 1} → statement M
-called-upper-spec =
+pub called_upper_spec : {M : Type 1} → statement M
+called_upper_spec =
     tie.close (tie.spec in-fifths-requires fifth-of-requires plus-requires returns)

@@ -10,18 +10,18 @@ toward-requires : tie.Need-toward-requires
 toward-requires c κs = search rules
 
 -- a tolerance is small enough
-cast-t7 : tie.Need-overflow-cast-t7
+cast-t7 : tie.Need-overflow_cast-result
 cast-t7 c =
     let s = c.before in
     rw c.toward.ensures (Fits-le (toward_most s.args.upward s.args.self s.requires.0) (Fits-lit tt))
 
-cast-t8 : tie.Need-overflow-cast-t8
+cast-t8 : tie.Need-overflow_cast-result-2
 cast-t8 c = search rules
 
-cast-t9 : tie.Need-overflow-cast-t9
+cast-t9 : tie.Need-overflow_cast-result-3
 cast-t9 c = search rules
 
-cast-t10 : tie.Need-overflow-cast-t10
+cast-t10 : tie.Need-overflow_cast-result-4
 cast-t10 c = search rules
 
 returns : tie.Need-returns
@@ -29,5 +29,5 @@ returns c =
     let a = c.before.args in
     λ i. record { tolerance = c.toward.ensures i; floor = a.floor; remainder = a.remainder; extra = a.extra }
 
-pub rounding-spec : {M : Type 1} → statement M
-rounding-spec = tie.close (tie.spec toward-requires cast-t7 cast-t8 cast-t9 cast-t10 returns)
+pub rounding_spec : {M : Type 1} → statement M
+rounding_spec = tie.close (tie.spec toward-requires cast-t7 cast-t8 cast-t9 cast-t10 returns)
