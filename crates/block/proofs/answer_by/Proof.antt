@@ -5,11 +5,11 @@ use borrow.Author.Rules.{rules}
 use Rattle.block.proofs.answer_by.Statement.{statement}
 use Rattle.block.proofs.answer_by.Tie as tie
 
-returns : tie.Need-returns
+returns : tie.Need-returns-then-number-eq0
 returns c = search rules
 
-returns-2 : tie.Need-returns-2
-returns-2 c = turned_down _ [] c.if1.false
+returns-2 : tie.Need-returns-else-number-eq0
+returns-2 c = turned_down _ [] c.if-number-eq0.false
 
-pub answer-by-spec : {M : Type 1} → statement M
-answer-by-spec = tie.close (tie.spec returns returns-2)
+pub answer_by_spec : {M : Type 1} → statement M
+answer_by_spec = tie.close (tie.spec returns returns-2)

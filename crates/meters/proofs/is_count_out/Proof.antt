@@ -4,13 +4,13 @@ use Rattle.meters.specs.Meters.{count_out}
 use Rattle.meters.proofs.is_count_out.Statement.{statement}
 use Rattle.meters.proofs.is_count_out.Tie as tie
 
-returns : tie.Need-returns
+returns : tie.Need-returns-then-count-eq0
 unfolding count_out
 returns c = search (either, tests) depth 9
 
-returns-2 : tie.Need-returns-2
+returns-2 : tie.Need-returns
 unfolding count_out
 returns-2 c = search tests depth 9
 
-pub is-count-out-spec : {M : Type 1} → statement M
-is-count-out-spec = tie.close (tie.spec returns returns-2)
+pub is_count_out_spec : {M : Type 1} → statement M
+is_count_out_spec = tie.close (tie.spec returns returns-2)

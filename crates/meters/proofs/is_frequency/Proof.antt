@@ -9,17 +9,17 @@ use Rattle.meters.proofs.is_frequency.Tie as tie
 
 -- what owning an f32 tells: the format holds it
 held : (c : tie.Start) → T (fits binary32 c.args.f)
-held c = subst T (sym c.well-formed.0.1) tt
+held c = subst T (sym c.well_formed.0.1) tt
 
-returns : tie.Need-returns
+returns : tie.Need-returns-then-f
 returns c =
     let f = c.before.args.f in
-    and_second _ (le forty_five f) (le f fifty_five) c.if1.true refl ∙ frequency_is f (held c.before)
+    and_second _ (le forty_five f) (le f fifty_five) c.if-f.true refl ∙ frequency_is f (held c.before)
 
-returns-2 : tie.Need-returns-2
+returns-2 : tie.Need-returns-else-f
 returns-2 c =
     let f = c.before.args.f in
-    and_first _ (le forty_five f) (le f fifty_five) refl c.if1.false ∙ frequency_is f (held c.before)
+    and_first _ (le forty_five f) (le f fifty_five) refl c.if-f.false ∙ frequency_is f (held c.before)
 
-pub is-frequency-spec : {M : Type 1} → statement M
-is-frequency-spec = tie.close (tie.spec returns returns-2)
+pub is_frequency_spec : {M : Type 1} → statement M
+is_frequency_spec = tie.close (tie.spec returns returns-2)

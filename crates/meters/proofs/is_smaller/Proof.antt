@@ -9,12 +9,12 @@ use Rattle.meters.proofs.is_smaller.Tie as tie
 
 -- what owning two f32s tells: the format holds them
 held : (c : tie.Start) → T (fits binary32 c.args.a) × T (fits binary32 c.args.b)
-held c = (subst T (sym c.well-formed.0.1) tt, subst T (sym c.well-formed.1.0.1) tt)
+held c = (subst T (sym c.well_formed.0.1) tt, subst T (sym c.well_formed.1.0.1) tt)
 
 -- by the law of either test, so that an edit of definition and code alike fails at the claim
 returns : tie.Need-returns
 unfolding smaller
 returns c = let h = held c in search (lt_is, le_is)
 
-pub is-smaller-spec : {M : Type 1} → statement M
-is-smaller-spec = tie.close (tie.spec returns)
+pub is_smaller_spec : {M : Type 1} → statement M
+is_smaller_spec = tie.close (tie.spec returns)

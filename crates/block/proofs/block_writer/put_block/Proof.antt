@@ -4,28 +4,28 @@ use borrow.Author.Rules.{rules}
 use Rattle.block.proofs.block_writer.put_block.Statement.{statement}
 use Rattle.block.proofs.block_writer.put_block.Tie as tie
 
-put-u32-requires : tie.Need-put-u32-requires
+put-u32-requires : tie.Need-put_u32-at-requires
 put-u32-requires c κs = search rules
 
-cast-put-byte : tie.Need-overflow-cast-put-byte
+cast-put-byte : tie.Need-overflow_cast-seconds
 cast-put-byte c = search rules
 
-put-byte-requires : tie.Need-put-byte-requires
+put-byte-requires : tie.Need-put_byte-at-requires
 put-byte-requires c κs = search rules
 
-put-zeros-requires : tie.Need-put-zeros-requires
+put-zeros-requires : tie.Need-put_zeros-at-requires
 put-zeros-requires c κs = search rules
 
-put-bytes-requires : tie.Need-put-bytes-requires
+put-bytes-requires : tie.Need-put_bytes-at-requires
 put-bytes-requires c κs = search rules
 
-put-zeros-requires-2 : tie.Need-put-zeros-requires-2
+put-zeros-requires-2 : tie.Need-put_zeros-requires
 put-zeros-requires-2 c κs = search rules
 
-put-check-requires : tie.Need-put-check-requires
+put-check-requires : tie.Need-put_check-requires
 put-check-requires c κs = search rules
 
-same_length : tie.Need-same-length
+same_length : tie.Need-shape_of-buf
 same_length c = search rules
 
 returns : tie.Need-returns
@@ -37,11 +37,11 @@ returns c =
     let p2 = p3.before.before.before.before in
     let p1 = p2.before.before.before.before in
     let start = p1.before.before.before.before in
-    let put = block_put start.args.n start.args.seconds.now p1.put-u32.ensures p2.put_byte.ensures p3.put-zeros.ensures p4.put-bytes.ensures p5.put-zeros2.ensures start.requires.1 in
-    close_put (block_front_length start.args.n start.args.seconds.now start.requires.1) put p6.put-check.ensures
+    let put = block_put start.args.n start.args.seconds.now p1.put_u32-at.ensures p2.put_byte-at.ensures p3.put_zeros-at.ensures p4.put_bytes-at.ensures p5.put_zeros.ensures start.requires.1 in
+    close_put (block_front_length start.args.n start.args.seconds.now start.requires.1) put p6.put_check.ensures
 
-pub put-block-spec : {M : Type 1} → statement M
-put-block-spec =
+pub put_block_spec : {M : Type 1} → statement M
+put_block_spec =
     tie.close
     (tie.spec
     put-u32-requires

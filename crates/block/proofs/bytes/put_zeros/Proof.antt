@@ -11,35 +11,35 @@ use Rattle.block.proofs.Puts.{zero_none, zero_more, zero_all}
 use Rattle.block.proofs.bytes.put_zeros.Statement.{statement}
 use Rattle.block.proofs.bytes.put_zeros.Tie as tie
 
-abbrev invariant-loop : tie.invariant-loop
+abbrev invariant-loop : tie.invariant-loop-at
 invariant-loop buf₀ from end at₀ buf at = (from ≤ at) × (at ≤ end) × (length buf ≡ length buf₀) × Put (at - from) buf₀ buf from at (zeros (at - from))
 
-abbrev decreases-loop : tie.decreases-loop
+abbrev decreases-loop : tie.decreases-loop-at
 decreases-loop buf₀ from end at₀ buf at = end - at
 
-loop-holds : tie.Need-loop-init invariant-loop decreases-loop
+loop-holds : tie.Need-loop-at-init invariant-loop decreases-loop
 loop-holds c = (omega arith, omega arith, refl, zero_none c.before.args.buf.now c.before.args.from (omega arith))
 
-put-byte-requires : tie.Need-put-byte-requires invariant-loop decreases-loop
+put-byte-requires : tie.Need-put_byte-at-requires invariant-loop decreases-loop
 put-byte-requires c κs = search rules
 
-loop-less : tie.Need-loop-smaller invariant-loop decreases-loop
-loop-less c = omega (arith, c.before.before.put_byte.ensures.next)
+loop-less : tie.Need-loop-at-smaller invariant-loop decreases-loop
+loop-less c = omega (arith, c.before.before.put_byte-at.ensures.next)
 
-loop-again : tie.Need-loop-preserved invariant-loop decreases-loop
+loop-again : tie.Need-loop-at-preserved invariant-loop decreases-loop
 loop-again c =
     let at = c.before.before.before.before.before in
-    let p = zero_more at.loop.invariant.0 at.loop.invariant.3 c.before.before.put_byte.ensures in
-    (omega (arith, p.next), omega (arith, c.before.before.put_byte.ensures.next), kept p, p)
+    let p = zero_more at.loop-at.invariant.0 at.loop-at.invariant.3 c.before.before.put_byte-at.ensures in
+    (omega (arith, p.next), omega (arith, c.before.before.put_byte-at.ensures.next), kept p, p)
 
-same_length : tie.Need-same-length invariant-loop decreases-loop
+same_length : tie.Need-shape_of-buf invariant-loop decreases-loop
 same_length c = search rules
 
 returns : tie.Need-returns invariant-loop decreases-loop
-returns c = zero_all c.before.loop.invariant.1 c.loop-test.false c.before.loop.invariant.3
+returns c = zero_all c.before.loop-at.invariant.1 c.loop-at-test.false c.before.loop-at.invariant.3
 
-pub put-zeros-spec : {M : Type 1} → statement M
-put-zeros-spec =
+pub put_zeros_spec : {M : Type 1} → statement M
+put_zeros_spec =
     tie.close
     (tie.spec
     invariant-loop

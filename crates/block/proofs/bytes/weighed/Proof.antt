@@ -13,20 +13,20 @@ most c =
     let b : c.wide.result ≤ 255 = omega arith in
     mul-le-mul i b
 
-cast-result : tie.Need-overflow-cast-result
+cast-result : tie.Need-overflow_cast-result
 cast-result c = search rules
 
-add-result : tie.Need-overflow-add-result
+add-result : tie.Need-overflow_add-result
 add-result c = search rules
 
 wide-requires : tie.Need-wide-requires
 wide-requires c κs = search rules
 
-mul-result : tie.Need-overflow-mul-result
+mul-result : tie.Need-overflow_mul-result
 mul-result c = let h = most c in record { fits = omega arith }
 
 returns : tie.Need-returns
 returns c = (rw c.wide.ensures.0, most c)
 
-pub weighed-spec : {M : Type 1} → statement M
-weighed-spec = tie.close (tie.spec cast-result add-result wide-requires mul-result returns)
+pub weighed_spec : {M : Type 1} → statement M
+weighed_spec = tie.close (tie.spec cast-result add-result wide-requires mul-result returns)

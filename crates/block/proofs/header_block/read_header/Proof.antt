@@ -11,30 +11,30 @@ use borrow.Author.Rules.{rules}
 use Rattle.block.proofs.header_block.read_header.Statement.{statement}
 use Rattle.block.proofs.header_block.read_header.Tie as tie
 
-whole : (c : tie.Else1) → TakenHeader c.before.before.before.args.s.now
-whole c = taken_header _ (sym c.before.header-number.ensures ∙ c.if1.false)
+whole : (c : tie.Else-number-ne0) → TakenHeader c.before.before.before.args.s.now
+whole c = taken_header _ (sym c.before.header_number-number.ensures ∙ c.if-number-ne0.false)
 
-header-number-requires : tie.Need-header-number-requires
+header-number-requires : tie.Need-header_number-number-requires
 header-number-requires c κs = search rules
 
-returns : tie.Need-returns
+returns : tie.Need-returns-then-number-ne0
 returns c =
     let s = c.before.before.before.args.s.now in
     let vs = owner_of s ∷ seconds_of s ∷ [] in
-    turned_down _ vs c.if1.true ∙ ap (λ (n : ℕ). answered n vs) c.before.header-number.ensures
+    turned_down _ vs c.if-number-ne0.true ∙ ap (λ (n : ℕ). answered n vs) c.before.header_number-number.ensures
 
-shared-slice-read-t5 : tie.Need-shared-slice-read-t5
+shared-slice-read-t5 : tie.Need-bounds-s-6
 shared-slice-read-t5 c = let h = whole c.before in omega arith
 
-read-u32-requires : tie.Need-read-u32-requires
+read-u32-requires : tie.Need-read_u32-requires
 read-u32-requires c κs = let h = whole c.before in omega arith
 
-returns-2 : tie.Need-returns-2
+returns-2 : tie.Need-returns
 returns-2 c =
-    let n = sym c.before.before.if1.false ∙ c.before.before.before.header-number.ensures in
+    let n = sym c.before.before.if-number-ne0.false ∙ c.before.before.before.header_number-number.ensures in
     rw (c.read_u32.ensures, ← n)
 
-pub read-header-spec : {M : Type 1} → statement M
-read-header-spec =
+pub read_header_spec : {M : Type 1} → statement M
+read_header_spec =
     tie.close
     (tie.spec header-number-requires returns shared-slice-read-t5 read-u32-requires returns-2)

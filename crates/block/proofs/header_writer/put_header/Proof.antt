@@ -6,31 +6,31 @@ use borrow.Author.Rules.{rules}
 use Rattle.block.proofs.header_writer.put_header.Statement.{statement}
 use Rattle.block.proofs.header_writer.put_header.Tie as tie
 
-first-bytes-requires : tie.Need-first-bytes-requires
+first-bytes-requires : tie.Need-first_bytes-requires
 first-bytes-requires c κs = search rules
 
-put-u32-requires : tie.Need-put-u32-requires
+put-u32-requires : tie.Need-put_u32-at-requires
 put-u32-requires c κs = search rules
 
-put-u16-requires : tie.Need-put-u16-requires
+put-u16-requires : tie.Need-put_u16-at-requires
 put-u16-requires c κs = search rules
 
-put-byte-requires : tie.Need-put-byte-requires
+put-byte-requires : tie.Need-put_byte-at-requires
 put-byte-requires c κs = search rules
 
-put-byte-requires-2 : tie.Need-put-byte-requires-2
+put-byte-requires-2 : tie.Need-put_byte-at-requires-2
 put-byte-requires-2 c κs = search rules
 
-put-u32-requires-2 : tie.Need-put-u32-requires-2
+put-u32-requires-2 : tie.Need-put_u32-at-requires-2
 put-u32-requires-2 c κs = search rules
 
-put-zeros-requires : tie.Need-put-zeros-requires
+put-zeros-requires : tie.Need-put_zeros-requires
 put-zeros-requires c κs = search rules
 
-put-check-requires : tie.Need-put-check-requires
+put-check-requires : tie.Need-put_check-requires
 put-check-requires c κs = search rules
 
-same_length : tie.Need-same-length
+same_length : tie.Need-shape_of-buf
 same_length c = search rules
 
 returns : tie.Need-returns
@@ -44,11 +44,11 @@ returns c =
     let p2 = p3.before.before.before.before in
     let p1 = p2.before.before.before.before in
     let args = p1.before.before.before.before.args in
-    let put = header_put p1.before.first_bytes.result args.owner args.seconds p1.before.first_bytes.ensures p1.put-u32.ensures p2.put-u16.ensures p3.put_byte.ensures p4.put-byte2.ensures p5.put-u322.ensures p6.put-zeros.ensures in
-    close_put refl put p7.put-check.ensures
+    let put = header_put p1.before.first_bytes.result args.owner args.seconds p1.before.first_bytes.ensures p1.put_u32-at.ensures p2.put_u16-at.ensures p3.put_byte-at.ensures p4.put_byte-at-2.ensures p5.put_u32-at-2.ensures p6.put_zeros.ensures in
+    close_put refl put p7.put_check.ensures
 
-pub put-header-spec : {M : Type 1} → statement M
-put-header-spec =
+pub put_header_spec : {M : Type 1} → statement M
+put_header_spec =
     tie.close
     (tie.spec
     first-bytes-requires

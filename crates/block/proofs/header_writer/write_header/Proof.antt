@@ -9,29 +9,29 @@ use borrow.Author.Rules.{rules}
 use Rattle.block.proofs.header_writer.write_header.Statement.{statement}
 use Rattle.block.proofs.header_writer.write_header.Tie as tie
 
-write-header-number-requires : tie.Need-write-header-number-requires
+write-header-number-requires : tie.Need-write_header_number-number-requires
 write-header-number-requires c κs = search rules
 
-fit : (c : tie.Then1) → FitHeader (length c.before.before.before.args.buf.now) c.before.before.before.args.owner c.before.before.before.args.seconds
-fit c = fit_header _ _ _ (sym c.before.write-header-number.ensures ∙ c.if1.true)
+fit : (c : tie.Then-number-eq0) → FitHeader (length c.before.before.before.args.buf.now) c.before.before.before.args.owner c.before.before.before.args.seconds
+fit c = fit_header _ _ _ (sym c.before.write_header_number-number.ensures ∙ c.if-number-eq0.true)
 
-put-header-requires : tie.Need-put-header-requires
+put-header-requires : tie.Need-put_header-requires
 put-header-requires c κs = (fit c.before).len_is
 
-answer-by-requires : tie.Need-answer-by-requires
+answer-by-requires : tie.Need-answer_by-requires
 answer-by-requires c κs = search rules
 
-same_length : tie.Need-same-length
-same_length c = ⊎_elim (λ w. search rules) (λ w. search rules) c.before.if1.branch
+same_length : tie.Need-shape_of-buf
+same_length c = ⊎_elim (λ w. search rules) (λ w. search rules) c.before.if-number-eq0.branch
 
 -- the buffer, by which arm control came
-buffer : (c : tie.After-answer-by) → c.before.if1.buf ≡ buffer_by c.before.before.write-header-number.result c.before.before.before.before.args.buf.now (header_bytes c.before.before.before.before.args.owner c.before.before.before.before.args.seconds)
-buffer c = ⊎_elim (λ w. filled _ _ w.0.taken (w.5 ∙ w.2.ensures)) (λ w. w.1 ∙ as_found _ _ _ w.0.left) c.before.if1.branch
+buffer : (c : tie.After-answer_by) → c.before.if-number-eq0.buf ≡ buffer_by c.before.before.write_header_number-number.result c.before.before.before.before.args.buf.now (header_bytes c.before.before.before.before.args.owner c.before.before.before.before.args.seconds)
+buffer c = ⊎_elim (λ w. filled _ _ w.0.taken (w.5 ∙ w.2.ensures)) (λ w. w.1 ∙ as_found _ _ _ w.0.left) c.before.if-number-eq0.branch
 
 returns : tie.Need-returns
-returns c = by_number _ _ c.before.before.write-header-number.ensures c.answer-by.ensures (buffer c)
+returns c = by_number _ _ c.before.before.write_header_number-number.ensures c.answer_by.ensures (buffer c)
 
-pub write-header-spec : {M : Type 1} → statement M
-write-header-spec =
+pub write_header_spec : {M : Type 1} → statement M
+write_header_spec =
     tie.close
     (tie.spec write-header-number-requires put-header-requires answer-by-requires same_length returns)

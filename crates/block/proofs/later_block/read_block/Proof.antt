@@ -11,29 +11,29 @@ use borrow.Author.Rules.{rules}
 use Rattle.block.proofs.later_block.read_block.Statement.{statement}
 use Rattle.block.proofs.later_block.read_block.Tie as tie
 
-whole : (c : tie.Else1) → TakenBlock c.before.before.before.args.s.now c.before.before.before.args.seconds c.before.before.before.args.n
-whole c = taken_block _ _ _ (sym c.before.block-number.ensures ∙ c.if1.false)
+whole : (c : tie.Else-number-ne0) → TakenBlock c.before.before.before.args.s.now c.before.before.before.args.seconds c.before.before.before.args.n
+whole c = taken_block _ _ _ (sym c.before.block_number-number.ensures ∙ c.if-number-ne0.false)
 
-block-number-requires : tie.Need-block-number-requires
+block-number-requires : tie.Need-block_number-number-requires
 block-number-requires c κs = search rules
 
-returns : tie.Need-returns
+returns : tie.Need-returns-then-number-ne0
 returns c =
     let vs = count_of c.before.before.before.args.s.now ∷ [] in
-    turned_down _ vs c.if1.true ∙ ap (λ (n : ℕ). answered n vs) c.before.block-number.ensures
+    turned_down _ vs c.if-number-ne0.true ∙ ap (λ (n : ℕ). answered n vs) c.before.block_number-number.ensures
 
-shared-slice-read-size : tie.Need-shared-slice-read-size
+shared-slice-read-size : tie.Need-bounds-s-4
 shared-slice-read-size c = let h = whole c.before in omega arith
 
 size-requires : tie.Need-size-requires
 size-requires c κs = search rules
 
-returns-2 : tie.Need-returns-2
+returns-2 : tie.Need-returns
 returns-2 c =
-    let n = sym c.before.before.if1.false ∙ c.before.before.before.block-number.ensures in
+    let n = sym c.before.before.if-number-ne0.false ∙ c.before.before.before.block_number-number.ensures in
     rw (c.size.ensures, ← n)
 
-pub read-block-spec : {M : Type 1} → statement M
-read-block-spec =
+pub read_block_spec : {M : Type 1} → statement M
+read_block_spec =
     tie.close
     (tie.spec block-number-requires returns shared-slice-read-size size-requires returns-2)

@@ -13,26 +13,26 @@ use Rattle.block.proofs.later_block.second.Tie as tie
 whole : (s : List ℕ) (i : ℕ) → length s ≡ block_size → i < per_block → length (second_of s i) ≡ second_size
 whole s i h k = simp (length-take, length-drop) (omega arith)
 
-second-at-requires : tie.Need-second-at-requires
+second-at-requires : tie.Need-second_at-from-requires
 second-at-requires c κs = search rules
 
-add-end : tie.Need-overflow-add-end
+add-end : tie.Need-overflow_add-end
 add-end c = search rules
 
-sub-result : tie.Need-overflow-sub-result
+sub-result : tie.Need-slice_bounds-result-count
 sub-result c = search rules
 
-part-result-start : tie.Need-slice-bounds-result-start
+part-result-start : tie.Need-slice_bounds-result-start
 part-result-start c = search rules
 
-part-result-end : tie.Need-slice-bounds-result-end
+part-result-end : tie.Need-slice_bounds-result-end
 part-result-end c = search rules
 
 returns : tie.Need-returns
 returns c =
     let at = second_at c.before.before.before.args.i in
     let e : at + second_size - at ≡ second_size = omega arith in
-    rw (c.before.second_at.ensures, e) (record { bytes = refl; whole = whole _ _ c.before.before.before.requires.0 c.before.before.before.requires.1 })
+    rw (c.before.second_at-from.ensures, e) (record { bytes = refl; whole = whole _ _ c.before.before.before.requires.0 c.before.before.before.requires.1 })
 
 pub second_spec : {M : Type 1} → statement M
 second_spec =

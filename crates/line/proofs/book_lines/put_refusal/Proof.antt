@@ -9,25 +9,25 @@ use Rattle.line.proofs.book_lines.put_refusal.Tie as tie
 slice-aggregate-put-bytes : tie.Need-slice-aggregate-put-bytes
 slice-aggregate-put-bytes c = search rules
 
-put-bytes-requires : tie.Need-put-bytes-requires
+put-bytes-requires : tie.Need-put_bytes-at-requires
 put-bytes-requires c κs = search rules
 
-put-count-requires : tie.Need-put-count-requires
+put-count-requires : tie.Need-put_count-at-requires
 put-count-requires c κs = search rules
 
 slice-aggregate-put-bytes-2 : tie.Need-slice-aggregate-put-bytes-2
 slice-aggregate-put-bytes-2 c = search rules
 
-put-bytes-requires-2 : tie.Need-put-bytes-requires-2
+put-bytes-requires-2 : tie.Need-put_bytes-at-requires-2
 put-bytes-requires-2 c κs = search rules
 
-put-count-requires-2 : tie.Need-put-count-requires-2
+put-count-requires-2 : tie.Need-put_count-at-requires-2
 put-count-requires-2 c κs = search rules
 
-put-byte-requires : tie.Need-put-byte-requires
+put-byte-requires : tie.Need-put_byte-requires
 put-byte-requires c κs = search rules
 
-same_length : tie.Need-same-length
+same_length : tie.Need-shape_of-buf
 same_length c = search rules
 
 returns : tie.Need-returns
@@ -38,18 +38,9 @@ returns c =
     let p3 = p4.before.before.before.before in
     let p2 = p3.before.before.before.before.before in
     let p1 = p2.before.before.before.before in
-    loosen (omega arith) (both p1.put-bytes.ensures (both p2.put_count.ensures (both p3.put-bytes2.ensures (both p4.put-count2.ensures p5.put_byte.ensures))))
+    loosen (omega arith) (both p1.put_bytes-at.ensures (both p2.put_count-at.ensures (both p3.put_bytes-at-2.ensures (both p4.put_count-at-2.ensures p5.put_byte.ensures))))
 
-pub put-refusal-spec : {M : Type 1} → statement M
-put-refusal-spec =
+pub put_refusal_spec : {M : Type 1} → statement M
+put_refusal_spec =
     tie.close
-    (tie.spec
-    slice-aggregate-put-bytes
-    put-bytes-requires
-    put-count-requires
-    slice-aggregate-put-bytes-2
-    put-bytes-requires-2
-    put-count-requires-2
-    put-byte-requires
-    same_length
-    returns)
+    (tie.spec put-bytes-requires put-count-requires put-bytes-requires-2 put-count-requires-2 put-byte-requires same_length returns)

@@ -9,31 +9,31 @@ use Rattle.line.proofs.book_lines.put_sums.Tie as tie
 slice-aggregate-put-named : tie.Need-slice-aggregate-put-named
 slice-aggregate-put-named c = search rules
 
-put-named-requires : tie.Need-put-named-requires
+put-named-requires : tie.Need-put_named-at-requires
 put-named-requires c κs = search rules
 
 slice-aggregate-put-named-2 : tie.Need-slice-aggregate-put-named-2
 slice-aggregate-put-named-2 c = search rules
 
-put-named-requires-2 : tie.Need-put-named-requires-2
+put-named-requires-2 : tie.Need-put_named-at-requires-2
 put-named-requires-2 c κs = search rules
 
 slice-aggregate-put-named-3 : tie.Need-slice-aggregate-put-named-3
 slice-aggregate-put-named-3 c = search rules
 
-put-named-requires-3 : tie.Need-put-named-requires-3
+put-named-requires-3 : tie.Need-put_named-at-requires-3
 put-named-requires-3 c κs = search rules
 
 slice-aggregate-put-named-4 : tie.Need-slice-aggregate-put-named-4
 slice-aggregate-put-named-4 c = search rules
 
-put-named-requires-4 : tie.Need-put-named-requires-4
+put-named-requires-4 : tie.Need-put_named-at-requires-4
 put-named-requires-4 c κs = search rules
 
-put-byte-requires : tie.Need-put-byte-requires
+put-byte-requires : tie.Need-put_byte-requires
 put-byte-requires c κs = search rules
 
-same_length : tie.Need-same-length
+same_length : tie.Need-shape_of-buf
 same_length c = search rules
 
 returns : tie.Need-returns
@@ -44,20 +44,9 @@ returns c =
     let p3 = p4.before.before.before.before.before in
     let p2 = p3.before.before.before.before.before in
     let p1 = p2.before.before.before.before.before in
-    loosen (omega arith) (both p1.put-named.ensures (both p2.put-named2.ensures (both p3.put-named3.ensures (both p4.put-named4.ensures p5.put_byte.ensures))))
+    loosen (omega arith) (both p1.put_named-at.ensures (both p2.put_named-at-2.ensures (both p3.put_named-at-3.ensures (both p4.put_named-at-4.ensures p5.put_byte.ensures))))
 
-pub put-sums-spec : {M : Type 1} → statement M
-put-sums-spec =
+pub put_sums_spec : {M : Type 1} → statement M
+put_sums_spec =
     tie.close
-    (tie.spec
-    slice-aggregate-put-named
-    put-named-requires
-    slice-aggregate-put-named-2
-    put-named-requires-2
-    slice-aggregate-put-named-3
-    put-named-requires-3
-    slice-aggregate-put-named-4
-    put-named-requires-4
-    put-byte-requires
-    same_length
-    returns)
+    (tie.spec put-named-requires put-named-requires-2 put-named-requires-3 put-named-requires-4 put-byte-requires same_length returns)

@@ -6,17 +6,17 @@ use borrow.Author.Rules.{rules}
 use Rattle.line.proofs.book_lines.sum_line.Statement.{statement}
 use Rattle.line.proofs.book_lines.sum_line.Tie as tie
 
-returns : tie.Need-returns
-returns c = let a = c.before.before.args in short line_room a.buf.now (sum_text a.s) c.if1.true
+returns : tie.Need-returns-then-buf-lt-LEAST
+returns c = let a = c.before.before.args in short line_room a.buf.now (sum_text a.s) c.if-buf-lt-LEAST.true
 
-put-sums-requires : tie.Need-put-sums-requires
+put-sums-requires : tie.Need-put_sums-requires
 put-sums-requires c κs = search rules
 
-same_length : tie.Need-same-length
+same_length : tie.Need-shape_of-buf
 same_length c = search rules
 
-returns-2 : tie.Need-returns-2
-returns-2 c = written c.before.before.before.before.if1.false c.before.before.put-sums.ensures
+returns-2 : tie.Need-returns
+returns-2 c = written c.before.before.before.before.if-buf-lt-LEAST.false c.before.before.put_sums.ensures
 
-pub sum-line-spec : {M : Type 1} → statement M
-sum-line-spec = tie.close (tie.spec returns put-sums-requires same_length returns-2)
+pub sum_line_spec : {M : Type 1} → statement M
+sum_line_spec = tie.close (tie.spec returns put-sums-requires same_length returns-2)

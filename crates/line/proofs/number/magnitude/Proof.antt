@@ -17,38 +17,38 @@ Z c = c.args.v.0
 held : (c : tie.Start) → SFits w64 (Z c)
 held c = search fit
 
-low : (c : tie.Then1) → Below (Z c.before.before)
-low c = below _ (held c.before.before) (sym c.before.is_negative.ensures ∙ c.if1.true)
+low : (c : tie.Then-is_negative) → Below (Z c.before.before)
+low c = below _ (held c.before.before) (sym c.before.is_negative.ensures ∙ c.if-is_negative.true)
 
-high : (c : tie.Else1) → Above (Z c.before.before)
-high c = above _ (held c.before.before) (sym c.before.is_negative.ensures ∙ c.if1.false)
+high : (c : tie.Else-is_negative) → Above (Z c.before.before)
+high c = above _ (held c.before.before) (sym c.before.is_negative.ensures ∙ c.if-is_negative.false)
 
-is-negative-requires : tie.Need-is-negative-requires
+is-negative-requires : tie.Need-is_negative-requires
 is-negative-requires c κs = search rules
 
-add-result : tie.Need-overflow-add-result
+add-result : tie.Need-overflow_add-result
 add-result c = let b = low c.before.before in rw (to_z-of_z (held c.before.before.before.before)) b.next
 
-sub-result : tie.Need-overflow-sub-result
+sub-result : tie.Need-overflow_sub-result
 sub-result c = let b = low c.before.before in rw (to_z-of_z (held c.before.before.before.before), to_z-of_z b.next) b.flip
 
-cast-result : tie.Need-overflow-cast-result
+cast-result : tie.Need-overflow_cast-result
 cast-result c = let b = low c.before.before in rw (to_z-of_z (held c.before.before.before.before), to_z-of_z b.next, to_z-of_z b.flip, b.is) (tt, record { fits = omega arith })
 
-add-result-2 : tie.Need-overflow-add-result-2
+add-result-2 : tie.Need-overflow_add-result-then-is_negative
 add-result-2 c = let b = low c.before.before in rw (to_z-of_z (held c.before.before.before.before), to_z-of_z b.next, to_z-of_z b.flip, b.is) (record { fits = omega arith })
 
-cast-result-2 : tie.Need-overflow-cast-result-2
+cast-result-2 : tie.Need-overflow_cast-result-else-is_negative
 cast-result-2 c = let a = high c.before.before in rw (to_z-of_z (held c.before.before.before.before)) (a.sure, record { fits = omega arith })
 
-returns : tie.Need-returns
+returns : tie.Need-returns-then-is_negative
 returns c = let b = low c.before.before in rw (to_z-of_z (held c.before.before.before.before), to_z-of_z b.next, to_z-of_z b.flip, b.is) (omega arith)
 
-returns-2 : tie.Need-returns-2
+returns-2 : tie.Need-returns-else-is_negative
 returns-2 c = search rules
 
-pub magnitude-spec : {M : Type 1} → statement M
-magnitude-spec =
+pub magnitude_spec : {M : Type 1} → statement M
+magnitude_spec =
     tie.close
     (tie.spec
     is-negative-requires

@@ -4,11 +4,11 @@ use Rattle.numbers.proofs.Read.{same}
 use Rattle.line.proofs.number.of_kw.Statement.{statement}
 use Rattle.line.proofs.number.of_kw.Tie as tie
 
-cast-t2 : tie.Need-overflow-cast-t2
+cast-t2 : tie.Need-overflow_cast-result
 cast-t2 c = search fit
 
 returns : tie.Need-returns
 returns c = search same depth 7
 
-pub of-kw-spec : {M : Type 1} → statement M
-of-kw-spec = tie.close (tie.spec cast-t2 returns)
+pub of_kw_spec : {M : Type 1} → statement M
+of_kw_spec = tie.close (tie.spec cast-t2 returns)

@@ -5,22 +5,22 @@ use borrow.Author.Rules.{rules}
 use Rattle.line.proofs.row_lines.put_kind.Statement.{statement}
 use Rattle.line.proofs.row_lines.put_kind.Tie as tie
 
-put-field-requires : tie.Need-put-field-requires
+put-field-requires : tie.Need-put_field-at-requires
 put-field-requires c κs = search rules
 
-put-field-requires-2 : tie.Need-put-field-requires-2
+put-field-requires-2 : tie.Need-put_field-at-requires-2
 put-field-requires-2 c κs = search rules
 
-put-field-requires-3 : tie.Need-put-field-requires-3
+put-field-requires-3 : tie.Need-put_field-at-requires-3
 put-field-requires-3 c κs = search rules
 
-put-field-requires-4 : tie.Need-put-field-requires-4
+put-field-requires-4 : tie.Need-put_field-at-requires-4
 put-field-requires-4 c κs = search rules
 
-put-field-requires-5 : tie.Need-put-field-requires-5
+put-field-requires-5 : tie.Need-put_field-requires
 put-field-requires-5 c κs = search rules
 
-same_length : tie.Need-same-length
+same_length : tie.Need-shape_of-buf
 same_length c = search rules
 
 returns : tie.Need-returns
@@ -31,10 +31,10 @@ returns c =
     let p3 = p4.before.before.before.before in
     let p2 = p3.before.before.before.before in
     let p1 = p2.before.before.before.before in
-    both p1.put-field.ensures (both p2.put-field2.ensures (both p3.put-field3.ensures (both p4.put-field4.ensures p5.put-field5.ensures)))
+    both p1.put_field-at.ensures (both p2.put_field-at-2.ensures (both p3.put_field-at-3.ensures (both p4.put_field-at-4.ensures p5.put_field.ensures)))
 
-pub put-kind-spec : {M : Type 1} → statement M
-put-kind-spec =
+pub put_kind_spec : {M : Type 1} → statement M
+put_kind_spec =
     tie.close
     (tie.spec
     put-field-requires

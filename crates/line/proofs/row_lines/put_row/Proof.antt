@@ -6,31 +6,31 @@ use borrow.Author.Rules.{rules}
 use Rattle.line.proofs.row_lines.put_row.Statement.{statement}
 use Rattle.line.proofs.row_lines.put_row.Tie as tie
 
-put-count-requires : tie.Need-put-count-requires
+put-count-requires : tie.Need-put_count-at-requires
 put-count-requires c κs = search rules
 
-put-byte-requires : tie.Need-put-byte-requires
+put-byte-requires : tie.Need-put_byte-at-requires
 put-byte-requires c κs = search rules
 
-put-byte-requires-2 : tie.Need-put-byte-requires-2
+put-byte-requires-2 : tie.Need-put_byte-at-requires-2
 put-byte-requires-2 c κs = search rules
 
-put-kind-requires : tie.Need-put-kind-requires
+put-kind-requires : tie.Need-put_kind-at-requires
 put-kind-requires c κs = search rules
 
-put-kind-requires-2 : tie.Need-put-kind-requires-2
+put-kind-requires-2 : tie.Need-put_kind-at-requires-2
 put-kind-requires-2 c κs = search rules
 
-put-kind-requires-3 : tie.Need-put-kind-requires-3
+put-kind-requires-3 : tie.Need-put_kind-at-requires-3
 put-kind-requires-3 c κs = search rules
 
-put-field-requires : tie.Need-put-field-requires
+put-field-requires : tie.Need-put_field-at-requires
 put-field-requires c κs = search rules
 
-put-byte-requires-3 : tie.Need-put-byte-requires-3
+put-byte-requires-3 : tie.Need-put_byte-requires
 put-byte-requires-3 c κs = search rules
 
-same_length : tie.Need-same-length
+same_length : tie.Need-shape_of-buf
 same_length c = search rules
 
 returns : tie.Need-returns
@@ -44,10 +44,10 @@ returns c =
     let p3 = p4.before.before.before.before in
     let p2 = p3.before.before.before.before in
     let p1 = p2.before.before.before.before in
-    loosen (omega arith) (both p1.put_count.ensures (both p2.put_byte.ensures (both p3.put-byte2.ensures (both p4.put-kind.ensures (both p5.put-kind2.ensures (both p6.put-kind3.ensures (both p7.put-field.ensures p8.put-byte3.ensures)))))))
+    loosen (omega arith) (both p1.put_count-at.ensures (both p2.put_byte-at.ensures (both p3.put_byte-at-2.ensures (both p4.put_kind-at.ensures (both p5.put_kind-at-2.ensures (both p6.put_kind-at-3.ensures (both p7.put_field-at.ensures p8.put_byte.ensures)))))))
 
-pub put-row-spec : {M : Type 1} → statement M
-put-row-spec =
+pub put_row_spec : {M : Type 1} → statement M
+put_row_spec =
     tie.close
     (tie.spec
     put-count-requires

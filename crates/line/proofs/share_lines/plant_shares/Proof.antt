@@ -6,17 +6,17 @@ use borrow.Author.Rules.{rules}
 use Rattle.line.proofs.share_lines.plant_shares.Statement.{statement}
 use Rattle.line.proofs.share_lines.plant_shares.Tie as tie
 
-returns : tie.Need-returns
-returns c = let a = c.before.before.args in short row_room a.buf.now (shares_text a.second a.letter a.x) c.if1.true
+returns : tie.Need-returns-then-buf-lt-ROW_ROOM
+returns c = let a = c.before.before.args in short row_room a.buf.now (shares_text a.second a.letter a.x) c.if-buf-lt-ROW_ROOM.true
 
-put-shares-requires : tie.Need-put-shares-requires
+put-shares-requires : tie.Need-put_shares-requires
 put-shares-requires c κs = search rules
 
-same_length : tie.Need-same-length
+same_length : tie.Need-shape_of-buf
 same_length c = search rules
 
-returns-2 : tie.Need-returns-2
-returns-2 c = written c.before.before.before.before.if1.false c.before.before.put-shares.ensures
+returns-2 : tie.Need-returns
+returns-2 c = written c.before.before.before.before.if-buf-lt-ROW_ROOM.false c.before.before.put_shares.ensures
 
-pub plant-shares-spec : {M : Type 1} → statement M
-plant-shares-spec = tie.close (tie.spec returns put-shares-requires same_length returns-2)
+pub plant_shares_spec : {M : Type 1} → statement M
+plant_shares_spec = tie.close (tie.spec returns put-shares-requires same_length returns-2)

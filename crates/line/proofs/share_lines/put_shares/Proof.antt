@@ -6,28 +6,28 @@ use borrow.Author.Rules.{rules}
 use Rattle.line.proofs.share_lines.put_shares.Statement.{statement}
 use Rattle.line.proofs.share_lines.put_shares.Tie as tie
 
-put-count-requires : tie.Need-put-count-requires
+put-count-requires : tie.Need-put_count-at-requires
 put-count-requires c κs = search rules
 
-put-byte-requires : tie.Need-put-byte-requires
+put-byte-requires : tie.Need-put_byte-at-requires
 put-byte-requires c κs = search rules
 
-put-byte-requires-2 : tie.Need-put-byte-requires-2
+put-byte-requires-2 : tie.Need-put_byte-at-requires-2
 put-byte-requires-2 c κs = search rules
 
-put-field-requires : tie.Need-put-field-requires
+put-field-requires : tie.Need-put_field-at-requires
 put-field-requires c κs = search rules
 
-put-unsigned-requires : tie.Need-put-unsigned-requires
+put-unsigned-requires : tie.Need-put_unsigned-at-requires
 put-unsigned-requires c κs = search rules
 
-put-roundings-requires : tie.Need-put-roundings-requires
+put-roundings-requires : tie.Need-put_roundings-at-requires
 put-roundings-requires c κs = search rules
 
-put-byte-requires-3 : tie.Need-put-byte-requires-3
+put-byte-requires-3 : tie.Need-put_byte-requires
 put-byte-requires-3 c κs = search rules
 
-same_length : tie.Need-same-length
+same_length : tie.Need-shape_of-buf
 same_length c = search rules
 
 returns : tie.Need-returns
@@ -40,10 +40,10 @@ returns c =
     let p3 = p4.before.before.before.before in
     let p2 = p3.before.before.before.before in
     let p1 = p2.before.before.before.before in
-    loosen (omega arith) (both p1.put_count.ensures (both p2.put_byte.ensures (both p3.put-byte2.ensures (both p4.put-field.ensures (both p5.put-unsigned.ensures (both p6.put-roundings.ensures p7.put-byte3.ensures))))))
+    loosen (omega arith) (both p1.put_count-at.ensures (both p2.put_byte-at.ensures (both p3.put_byte-at-2.ensures (both p4.put_field-at.ensures (both p5.put_unsigned-at.ensures (both p6.put_roundings-at.ensures p7.put_byte.ensures))))))
 
-pub put-shares-spec : {M : Type 1} → statement M
-put-shares-spec =
+pub put_shares_spec : {M : Type 1} → statement M
+put_shares_spec =
     tie.close
     (tie.spec
     put-count-requires

@@ -9,22 +9,22 @@ use Rattle.line.proofs.short_lines.put_counts.Tie as tie
 slice-aggregate-put-kind-counts : tie.Need-slice-aggregate-put-kind-counts
 slice-aggregate-put-kind-counts c = search rules
 
-put-kind-counts-requires : tie.Need-put-kind-counts-requires
+put-kind-counts-requires : tie.Need-put_kind_counts-at-requires
 put-kind-counts-requires c κs = search rules
 
 slice-aggregate-put-kind-counts-2 : tie.Need-slice-aggregate-put-kind-counts-2
 slice-aggregate-put-kind-counts-2 c = search rules
 
-put-kind-counts-requires-2 : tie.Need-put-kind-counts-requires-2
+put-kind-counts-requires-2 : tie.Need-put_kind_counts-at-requires-2
 put-kind-counts-requires-2 c κs = search rules
 
 slice-aggregate-put-kind-counts-3 : tie.Need-slice-aggregate-put-kind-counts-3
 slice-aggregate-put-kind-counts-3 c = search rules
 
-put-kind-counts-requires-3 : tie.Need-put-kind-counts-requires-3
+put-kind-counts-requires-3 : tie.Need-put_kind_counts-requires
 put-kind-counts-requires-3 c κs = search rules
 
-same_length : tie.Need-same-length
+same_length : tie.Need-shape_of-buf
 same_length c = search rules
 
 returns : tie.Need-returns
@@ -33,17 +33,9 @@ returns c =
     let p3 = c.before.before in
     let p2 = p3.before.before.before.before.before in
     let p1 = p2.before.before.before.before.before in
-    loosen (omega arith) (both p1.put-kind-counts.ensures (both p2.put-kind-counts2.ensures p3.put-kind-counts3.ensures))
+    loosen (omega arith) (both p1.put_kind_counts-at.ensures (both p2.put_kind_counts-at-2.ensures p3.put_kind_counts.ensures))
 
-pub put-counts-spec : {M : Type 1} → statement M
-put-counts-spec =
+pub put_counts_spec : {M : Type 1} → statement M
+put_counts_spec =
     tie.close
-    (tie.spec
-    slice-aggregate-put-kind-counts
-    put-kind-counts-requires
-    slice-aggregate-put-kind-counts-2
-    put-kind-counts-requires-2
-    slice-aggregate-put-kind-counts-3
-    put-kind-counts-requires-3
-    same_length
-    returns)
+    (tie.spec put-kind-counts-requires put-kind-counts-requires-2 put-kind-counts-requires-3 same_length returns)

@@ -6,28 +6,28 @@ use borrow.Author.Rules.{rules}
 use Rattle.line.proofs.short_lines.put_kind_counts.Statement.{statement}
 use Rattle.line.proofs.short_lines.put_kind_counts.Tie as tie
 
-put-byte-requires : tie.Need-put-byte-requires
+put-byte-requires : tie.Need-put_byte-at-requires
 put-byte-requires c κs = search rules
 
-put-bytes-requires : tie.Need-put-bytes-requires
+put-bytes-requires : tie.Need-put_bytes-at-requires
 put-bytes-requires c κs = search rules
 
 slice-aggregate-put-side-count : tie.Need-slice-aggregate-put-side-count
 slice-aggregate-put-side-count c = search rules
 
-put-side-count-requires : tie.Need-put-side-count-requires
+put-side-count-requires : tie.Need-put_side_count-at-requires
 put-side-count-requires c κs = search rules
 
 slice-aggregate-put-side-count-2 : tie.Need-slice-aggregate-put-side-count-2
 slice-aggregate-put-side-count-2 c = search rules
 
-put-side-count-requires-2 : tie.Need-put-side-count-requires-2
+put-side-count-requires-2 : tie.Need-put_side_count-at-requires-2
 put-side-count-requires-2 c κs = search rules
 
-put-byte-requires-2 : tie.Need-put-byte-requires-2
+put-byte-requires-2 : tie.Need-put_byte-requires
 put-byte-requires-2 c κs = search rules
 
-same_length : tie.Need-same-length
+same_length : tie.Need-shape_of-buf
 same_length c = search rules
 
 returns : tie.Need-returns
@@ -39,18 +39,9 @@ returns c =
     let p2 = p3.before.before.before.before.before in
     let p1 = p2.before.before.before.before in
     let start = p1.before.before.before.before in
-    loosen (omega (arith, start.requires.1)) (both p1.put_byte.ensures (both p2.put-bytes.ensures (both p3.put-side-count.ensures (both p4.put-side-count2.ensures p5.put-byte2.ensures))))
+    loosen (omega (arith, start.requires.1)) (both p1.put_byte-at.ensures (both p2.put_bytes-at.ensures (both p3.put_side_count-at.ensures (both p4.put_side_count-at-2.ensures p5.put_byte.ensures))))
 
-pub put-kind-counts-spec : {M : Type 1} → statement M
-put-kind-counts-spec =
+pub put_kind_counts_spec : {M : Type 1} → statement M
+put_kind_counts_spec =
     tie.close
-    (tie.spec
-    put-byte-requires
-    put-bytes-requires
-    slice-aggregate-put-side-count
-    put-side-count-requires
-    slice-aggregate-put-side-count-2
-    put-side-count-requires-2
-    put-byte-requires-2
-    same_length
-    returns)
+    (tie.spec put-byte-requires put-bytes-requires put-side-count-requires put-side-count-requires-2 put-byte-requires-2 same_length returns)

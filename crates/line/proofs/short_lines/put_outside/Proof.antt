@@ -6,28 +6,28 @@ use borrow.Author.Rules.{rules}
 use Rattle.line.proofs.short_lines.put_outside.Statement.{statement}
 use Rattle.line.proofs.short_lines.put_outside.Tie as tie
 
-put-count-requires : tie.Need-put-count-requires
+put-count-requires : tie.Need-put_count-at-requires
 put-count-requires c κs = search rules
 
-put-byte-requires : tie.Need-put-byte-requires
+put-byte-requires : tie.Need-put_byte-at-requires
 put-byte-requires c κs = search rules
 
-put-byte-requires-2 : tie.Need-put-byte-requires-2
+put-byte-requires-2 : tie.Need-put_byte-at-requires-2
 put-byte-requires-2 c κs = search rules
 
-put-bytes-requires : tie.Need-put-bytes-requires
+put-bytes-requires : tie.Need-put_bytes-at-requires
 put-bytes-requires c κs = search rules
 
-put-bytes-requires-2 : tie.Need-put-bytes-requires-2
+put-bytes-requires-2 : tie.Need-put_bytes-at-requires-2
 put-bytes-requires-2 c κs = search rules
 
-put-count-requires-2 : tie.Need-put-count-requires-2
+put-count-requires-2 : tie.Need-put_count-at-requires-2
 put-count-requires-2 c κs = search rules
 
-put-byte-requires-3 : tie.Need-put-byte-requires-3
+put-byte-requires-3 : tie.Need-put_byte-requires
 put-byte-requires-3 c κs = search rules
 
-same_length : tie.Need-same-length
+same_length : tie.Need-shape_of-buf
 same_length c = search rules
 
 returns : tie.Need-returns
@@ -41,10 +41,10 @@ returns c =
     let p2 = p3.before.before.before.before in
     let p1 = p2.before.before.before.before in
     let start = p1.before.before.before.before.before in
-    loosen (omega (arith, start.requires.1, start.requires.2)) (both p1.put_count.ensures (both p2.put_byte.ensures (both p3.put-byte2.ensures (both p4.put-bytes.ensures (both p5.put-bytes2.ensures (both p6.put-count2.ensures p7.put-byte3.ensures))))))
+    loosen (omega (arith, start.requires.1, start.requires.2)) (both p1.put_count-at.ensures (both p2.put_byte-at.ensures (both p3.put_byte-at-2.ensures (both p4.put_bytes-at.ensures (both p5.put_bytes-at-2.ensures (both p6.put_count-at-2.ensures p7.put_byte.ensures))))))
 
-pub put-outside-spec : {M : Type 1} → statement M
-put-outside-spec =
+pub put_outside_spec : {M : Type 1} → statement M
+put_outside_spec =
     tie.close
     (tie.spec
     put-count-requires

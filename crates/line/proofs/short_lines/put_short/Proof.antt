@@ -9,22 +9,22 @@ use Rattle.line.proofs.short_lines.put_short.Tie as tie
 slice-aggregate-put-side : tie.Need-slice-aggregate-put-side
 slice-aggregate-put-side c = search rules
 
-put-side-requires : tie.Need-put-side-requires
+put-side-requires : tie.Need-put_side-at-requires
 put-side-requires c κs = search rules
 
 slice-aggregate-put-side-2 : tie.Need-slice-aggregate-put-side-2
 slice-aggregate-put-side-2 c = search rules
 
-put-side-requires-2 : tie.Need-put-side-requires-2
+put-side-requires-2 : tie.Need-put_side-at-requires-2
 put-side-requires-2 c κs = search rules
 
 slice-aggregate-put-side-3 : tie.Need-slice-aggregate-put-side-3
 slice-aggregate-put-side-3 c = search rules
 
-put-side-requires-3 : tie.Need-put-side-requires-3
+put-side-requires-3 : tie.Need-put_side-requires
 put-side-requires-3 c κs = search rules
 
-same_length : tie.Need-same-length
+same_length : tie.Need-shape_of-buf
 same_length c = search rules
 
 returns : tie.Need-returns
@@ -33,17 +33,9 @@ returns c =
     let p3 = c.before.before in
     let p2 = p3.before.before.before.before.before in
     let p1 = p2.before.before.before.before.before in
-    loosen (omega arith) (both p1.put-side.ensures (both p2.put-side2.ensures p3.put-side3.ensures))
+    loosen (omega arith) (both p1.put_side-at.ensures (both p2.put_side-at-2.ensures p3.put_side.ensures))
 
-pub put-short-spec : {M : Type 1} → statement M
-put-short-spec =
+pub put_short_spec : {M : Type 1} → statement M
+put_short_spec =
     tie.close
-    (tie.spec
-    slice-aggregate-put-side
-    put-side-requires
-    slice-aggregate-put-side-2
-    put-side-requires-2
-    slice-aggregate-put-side-3
-    put-side-requires-3
-    same_length
-    returns)
+    (tie.spec put-side-requires put-side-requires-2 put-side-requires-3 same_length returns)

@@ -6,19 +6,19 @@ use borrow.Author.Rules.{rules}
 use Rattle.line.proofs.short_lines.put_side_count.Statement.{statement}
 use Rattle.line.proofs.short_lines.put_side_count.Tie as tie
 
-put-bytes-requires : tie.Need-put-bytes-requires
+put-bytes-requires : tie.Need-put_bytes-at-requires
 put-bytes-requires c κs = search rules
 
-put-count-requires : tie.Need-put-count-requires
+put-count-requires : tie.Need-put_count-at-requires
 put-count-requires c κs = search rules
 
-put-byte-requires : tie.Need-put-byte-requires
+put-byte-requires : tie.Need-put_byte-at-requires
 put-byte-requires c κs = search rules
 
-put-amount-requires : tie.Need-put-amount-requires
+put-amount-requires : tie.Need-put_amount-requires
 put-amount-requires c κs = search rules
 
-same_length : tie.Need-same-length
+same_length : tie.Need-shape_of-buf
 same_length c = search rules
 
 returns : tie.Need-returns
@@ -29,10 +29,10 @@ returns c =
     let p2 = p3.before.before.before.before in
     let p1 = p2.before.before.before.before in
     let start = p1.before.before.before.before in
-    loosen (omega (arith, start.requires.1)) (both p1.put-bytes.ensures (both p2.put_count.ensures (both p3.put_byte.ensures p4.put-amount.ensures)))
+    loosen (omega (arith, start.requires.1)) (both p1.put_bytes-at.ensures (both p2.put_count-at.ensures (both p3.put_byte-at.ensures p4.put_amount.ensures)))
 
-pub put-side-count-spec : {M : Type 1} → statement M
-put-side-count-spec =
+pub put_side_count_spec : {M : Type 1} → statement M
+put_side_count_spec =
     tie.close
     (tie.spec
     put-bytes-requires

@@ -21,18 +21,18 @@ nought-by-nought : div binary32 (of_bits binary32 0) (of_bits binary32 0) ≡ na
 unfolding div of_bits
 nought-by-nought = refl
 
-float-from-bits-result : tie.Need-float-from-bits-result
+float-from-bits-result : tie.Need-float_from_bits-result
 float-from-bits-result c =
     let b = c.before.args.bits in
-    subst (λ (t : Bool). T (not t)) (sym (nan_bits_above binary32 b ∙ le-ltb 2139095040 (b % 2 ^ 31) (omega (arith, c.if1.true)))) tt
+    subst (λ (t : Bool). T (not t)) (sym (nan_bits_above binary32 b ∙ le-ltb 2139095040 (b % 2 ^ 31) (omega (arith, c.if-bits-le-INFINITY.true)))) tt
 
-returns : tie.Need-returns
+returns : tie.Need-returns-then-bits-le-INFINITY
 returns c = search rules
 
-returns-2 : tie.Need-returns-2
+returns-2 : tie.Need-returns-else-bits-le-INFINITY
 returns-2 c =
     let b = c.before.args.bits in
-    nought-by-nought ∙ only_nan (of_bits binary32 b) (sym (nan_bits_is binary32 b) ∙ nan_bits_above binary32 b ∙ lt-ltb 2139095040 (b % 2 ^ 31) (omega (arith, c.if1.false)))
+    nought-by-nought ∙ only_nan (of_bits binary32 b) (sym (nan_bits_is binary32 b) ∙ nan_bits_above binary32 b ∙ lt-ltb 2139095040 (b % 2 ^ 31) (omega (arith, c.if-bits-le-INFINITY.false)))
 
-pub of-bits-spec : {M : Type 1} → statement M
-of-bits-spec = tie.close (tie.spec float-from-bits-result returns returns-2)
+pub of_bits_spec : {M : Type 1} → statement M
+of_bits_spec = tie.close (tie.spec float-from-bits-result returns returns-2)

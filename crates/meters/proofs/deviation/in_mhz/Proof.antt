@@ -22,13 +22,13 @@ use Rattle.meters.proofs.deviation.in_mhz.Tie as tie
 
 module _ (s : tie.Start) where
   held : T (fits binary32 s.args.d)
-  held = subst T (sym s.well-formed.0.1) tt
+  held = subst T (sym s.well_formed.0.1) tt
 
   parts : (finite s.args.d ≡ true) × (le_z (neg_ℤ (pos (hertz 5))) (exact s.args.d) ≡ true) × (le_z (exact s.args.d) (pos (hertz 5)) ≡ true)
   unfolding fair_reading between
   parts =
       let d = s.args.d in
-      let p = both_true (finite d) (le_z (neg_ℤ (pos (hertz 5))) (exact d) && le_z (exact d) (pos (hertz 5))) s.pre in
+      let p = both_true (finite d) (le_z (neg_ℤ (pos (hertz 5))) (exact d) && le_z (exact d) (pos (hertz 5))) s.requires in
       let q = both_true (le_z (neg_ℤ (pos (hertz 5))) (exact d)) (le_z (exact d) (pos (hertz 5))) p.1 in
       (p.0, q.0, q.1)
 
@@ -44,17 +44,17 @@ module _ (s : tie.Start) where
   unfolding exact_bits
   signed_is r e = ap (signed (is_negative bits)) (e ∙ ap (λ (n : ℕ). nearest_whole (n * 1000) (hertz 1)) (size_unsigned bits)) ∙ sym (mhz_signed (is_negative bits) (size_of bits))
 
-float-to-bits-bits : tie.Need-float-to-bits-bits
+float-to-bits-bits : tie.Need-float_to_bits-bits
 float-to-bits-bits c = finite_no_nan c.args.d (held c) (parts c).0
 
-size-in-mhz-requires : tie.Need-size-in-mhz-requires
+size-in-mhz-requires : tie.Need-size_in_mhz-size-requires
 size-in-mhz-requires c κs = (mod-lt (bits c) (pow_pos 31), subst (λ (n : ℕ). n ≤ hertz 5) (sym (size_unsigned (bits c))) (size_small c))
 
-cast-size : tie.Need-overflow-cast-size
-cast-size c = let m : c.size-in-mhz.result < 5001 = omega arith in search fit
+cast-size : tie.Need-overflow_cast-size
+cast-size c = let m : c.size_in_mhz-size.result < 5001 = omega arith in search fit
 
-sub-t8 : tie.Need-overflow-sub-t8
-sub-t8 c = let m : c.before.size-in-mhz.result < 5001 = omega arith in search fit depth 8
+sub-t8 : tie.Need-overflow_sub-result
+sub-t8 c = let m : c.before.size_in_mhz-size.result < 5001 = omega arith in search fit depth 8
 
 -- what is to be shown of a result
 met :
@@ -65,20 +65,20 @@ met :
     z ≡ in_mhz (exact s.args.d)
 met s t r z n e k = k ∙ ap (λ (u : Bool). signed u r) (sym n) ∙ signed_is s r e
 
-returns : tie.Need-returns
+returns : tie.Need-returns-then-bits-lt-SIGN
 returns c =
     let s = c.before.before in
-    let r = c.before.size-in-mhz.result in
+    let r = c.before.size_in_mhz-size.result in
     let m : r < 5001 = omega arith in
-    met s false r _ (lt-leb (2 ^ 31) (bits s) c.if1.true) c.before.size-in-mhz.ensures.0 (search same depth 16)
+    met s false r _ (lt-leb (2 ^ 31) (bits s) c.if-bits-lt-SIGN.true) c.before.size_in_mhz-size.ensures.0 (search same depth 16)
 
-returns-2 : tie.Need-returns-2
+returns-2 : tie.Need-returns-else-bits-lt-SIGN
 returns-2 c =
     let s = c.before.before in
-    let r = c.before.size-in-mhz.result in
+    let r = c.before.size_in_mhz-size.result in
     let m : r < 5001 = omega arith in
-    met s true r _ (le-leb (2 ^ 31) (bits s) c.if1.false) c.before.size-in-mhz.ensures.0 (search same depth 16)
+    met s true r _ (le-leb (2 ^ 31) (bits s) c.if-bits-lt-SIGN.false) c.before.size_in_mhz-size.ensures.0 (search same depth 16)
 
-pub in-mhz-spec : {M : Type 1} → statement M
-in-mhz-spec =
+pub in_mhz_spec : {M : Type 1} → statement M
+in_mhz_spec =
     tie.close (tie.spec float-to-bits-bits size-in-mhz-requires cast-size sub-t8 returns returns-2)

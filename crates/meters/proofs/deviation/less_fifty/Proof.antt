@@ -8,10 +8,10 @@ use Rattle.meters.proofs.deviation.less_fifty.Tie as tie
 
 -- what owning an f32 tells: the format holds it
 held : (c : tie.Start) → T (fits binary32 c.args.f)
-held c = subst T (sym c.well-formed.0.1) tt
+held c = subst T (sym c.well_formed.0.1) tt
 
 returns : tie.Need-returns
 returns c = record { is = refl; exact_case = exact_case c.args.f (held c) }
 
-pub less-fifty-spec : {M : Type 1} → statement M
-less-fifty-spec = tie.close (tie.spec returns)
+pub less_fifty_spec : {M : Type 1} → statement M
+less_fifty_spec = tie.close (tie.spec returns)

@@ -6,36 +6,36 @@ use Rattle.meters.specs.Meters.{fair_reading, exact_deviation}
 use Rattle.meters.proofs.deviation.of_reading.Statement.{statement}
 use Rattle.meters.proofs.deviation.of_reading.Tie as tie
 
-enum-known-reading : tie.Need-enum-known-reading
+enum-known-reading : tie.Need-enum_known-reading
 enum-known-reading c = search rules
 
-less-fifty-requires : tie.Need-less-fifty-requires
+less-fifty-requires : tie.Need-less_fifty-requires
 less-fifty-requires c κs = search rules
 
-enum-known-reading-2 : tie.Need-enum-known-reading-2
+enum-known-reading-2 : tie.Need-enum_known-reading-in-Deviation-1
 enum-known-reading-2 c = search rules
 
-enum_told : tie.Need-enum-told
+enum_told : tie.Need-enum_told-1
 enum_told c = search rules
 
-returns : tie.Need-returns
+returns : tie.Need-returns-in-Frequency
 returns c =
-    let e = c.before.before.reading.given.1 in
-    rw e (c.less_fifty_lem.ensures.exact_case (rw e at c.before.before.before.before.requires))
+    let e = c.before.in-Frequency.is in
+    rw e (c.less_fifty.ensures.exact_case (rw e at c.before.before.before.before.requires))
 
-returns-2 : tie.Need-returns-2
+returns-2 : tie.Need-returns-in-Deviation
 unfolding exact_deviation
 returns-2 c =
-    let fair = rw c.before.reading2.given.1 at c.before.before.before.requires in
-    rw c.before.reading2.given.1 (record { fair = fair; is = refl })
+    let fair = rw c.before.in-Deviation.is at c.before.requires in
+    rw c.before.in-Deviation.is (record { fair = fair; is = refl })
 
 -- a failed one isn't fair
-returns-3 : tie.Need-returns-3
+returns-3 : tie.Need-returns-in-Failed
 unfolding fair_reading
-returns-3 c = absurd (subst T (sym (rw c.enum_told.given.1 at c.before.before.requires)) tt)
+returns-3 c = absurd (subst T (sym (rw c.in-Failed.is at c.before.requires)) tt)
 
-pub of-reading-spec : {M : Type 1} → statement M
-of-reading-spec =
+pub of_reading_spec : {M : Type 1} → statement M
+of_reading_spec =
     tie.close
     (tie.spec
     enum-known-reading

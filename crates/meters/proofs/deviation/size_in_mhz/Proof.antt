@@ -14,25 +14,25 @@ use Rattle.meters.proofs.deviation.size_in_mhz.Tie as tie
 small : (s : tie.Start) {r : ℕ} → r ≡ nearest_whole (size_of s.args.bits * 1000) (hertz 1) → (r ≡ nearest_whole (size_of s.args.bits * 1000) (hertz 1)) × (r ≤ most_deviation)
 small s e = (e, subst (λ (n : ℕ). n ≤ most_deviation) (sym e) (mhz_most (size_of s.args.bits) s.requires.1))
 
-returns : tie.Need-returns
-returns c = let s = c.before in small s (size_low s.args.bits s.requires.0 c.if1.true)
+returns : tie.Need-returns-then-field-lt-HALF_MHZ
+returns c = let s = c.before in small s (size_low s.args.bits s.requires.0 c.if-field-lt-HALF_MHZ.true)
 
-add-digits : tie.Need-overflow-add-digits
+add-digits : tie.Need-overflow_add-digits
 add-digits c = search rules
 
-cast-digits : tie.Need-overflow-cast-digits
+cast-digits : tie.Need-overflow_cast-digits
 cast-digits c = search rules
 
-mul-nearest : tie.Need-overflow-mul-nearest
+mul-nearest : tie.Need-overflow_mul-digits
 mul-nearest c = search rules
 
-sub-nearest : tie.Need-overflow-sub-nearest
+sub-nearest : tie.Need-overflow_sub-field
 sub-nearest c = let s = c.before in omega (arith, field_most s.args.bits s.requires.0 s.requires.1)
 
-cast-nearest : tie.Need-overflow-cast-nearest
+cast-nearest : tie.Need-overflow_cast-field
 cast-nearest c = search rules
 
-shl-nearest : tie.Need-overflow-shl-nearest
+shl-nearest : tie.Need-overflow_shl-field
 shl-nearest c = search rules
 
 -- the divisor
@@ -46,23 +46,23 @@ module _ (s : tie.Start) (h : 116 ≤ s.args.bits / 2 ^ 23) where
 nearest-requires : tie.Need-nearest-requires
 nearest-requires c κs =
     let s = c.before in
-    let e = divisor s c.if1.false in (
+    let e = divisor s c.if-field-lt-HALF_MHZ.false in (
       omega arith,
-      subst (λ (n : ℕ). 0 < n) (sym e) (pow_pos (places s c.if1.false)),
-      subst (λ (n : ℕ). n ≤ 2 ^ 34) (sym e) (pow_mono {i = places s c.if1.false} {j = 34} (omega arith)),
+      subst (λ (n : ℕ). 0 < n) (sym e) (pow_pos (places s c.if-field-lt-HALF_MHZ.false)),
+      subst (λ (n : ℕ). n ≤ 2 ^ 34) (sym e) (pow_mono {i = places s c.if-field-lt-HALF_MHZ.false} {j = 34} (omega arith)),
     )
 
-returns-2 : tie.Need-returns-2
+returns-2 : tie.Need-returns
 returns-2 c =
     let s = c.before.before in
-    let h = c.before.if1.false in
+    let h = c.before.if-field-lt-HALF_MHZ.false in
     small s
     (c.nearest.ensures
     ∙ ap (nearest_whole ((2 ^ 23 + s.args.bits % 2 ^ 23) * 1000)) (divisor s h)
     ∙ size_high s.args.bits s.requires.0 s.requires.1 h)
 
-pub size-in-mhz-spec : {M : Type 1} → statement M
-size-in-mhz-spec =
+pub size_in_mhz_spec : {M : Type 1} → statement M
+size_in_mhz_spec =
     tie.close
     (tie.spec
     returns
