@@ -21,13 +21,13 @@ enum_told c = search rules
 returns : tie.Need-returns-in-Frequency
 returns c =
     let e = c.before.in-Frequency.is in
-    rw e (c.less_fifty.ensures.exact_case (rw e at c.before.before.before.before.requires))
+    rw e (c.less_fifty.ensures.exact_case (rw e at c.before.before.requires))
 
 returns-2 : tie.Need-returns-in-Deviation
 unfolding exact_deviation
 returns-2 c =
-    let fair = rw c.before.in-Deviation.is at c.before.requires in
-    rw c.before.in-Deviation.is (record { fair = fair; is = refl })
+    let fair = rw c.in-Deviation.is at c.before.requires in
+    rw c.in-Deviation.is (record { fair = fair; is = refl })
 
 -- a failed one isn't fair
 returns-3 : tie.Need-returns-in-Failed
