@@ -33,7 +33,7 @@ returns c =
     let p3 = c.before.before in
     let p2 = p3.before.before.before.before.before in
     let p1 = p2.before.before.before.before.before in
-    loosen (omega arith) (both p1.put_kind_counts-at.ensures (both p2.put_kind_counts-at-2.ensures p3.put_kind_counts.ensures))
+    loosen (omega arith) (both p1.put_kind_counts-at.ensures (both p2.put_kind_counts-at-2.ensures p3.put_kind_counts-at.ensures))
 
 pub put_counts_spec : {M : Type 1} → statement M
 put_counts_spec =

@@ -39,7 +39,7 @@ returns c =
     let p2 = p3.before.before.before.before.before in
     let p1 = p2.before.before.before.before in
     let start = p1.before.before.before.before in
-    loosen (omega (arith, start.requires.1)) (both p1.put_byte-at.ensures (both p2.put_bytes-at.ensures (both p3.put_side_count-at.ensures (both p4.put_side_count-at-2.ensures p5.put_byte.ensures))))
+    loosen (omega (arith, start.requires.1)) (both p1.put_byte-at.ensures (both p2.put_bytes-at.ensures (both p3.put_side_count-at.ensures (both p4.put_side_count-at-2.ensures p5.put_byte-at.ensures))))
 
 pub put_kind_counts_spec : {M : Type 1} → statement M
 put_kind_counts_spec =
