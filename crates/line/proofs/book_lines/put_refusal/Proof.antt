@@ -6,17 +6,11 @@ use borrow.Author.Rules.{rules}
 use Rattle.line.proofs.book_lines.put_refusal.Statement.{statement}
 use Rattle.line.proofs.book_lines.put_refusal.Tie as tie
 
-slice-aggregate-put-bytes : tie.Need-slice-aggregate-put-bytes
-slice-aggregate-put-bytes c = search rules
-
 put-bytes-requires : tie.Need-put_bytes-at-requires
 put-bytes-requires c κs = search rules
 
 put-count-requires : tie.Need-put_count-at-requires
 put-count-requires c κs = search rules
-
-slice-aggregate-put-bytes-2 : tie.Need-slice-aggregate-put-bytes-2
-slice-aggregate-put-bytes-2 c = search rules
 
 put-bytes-requires-2 : tie.Need-put_bytes-at-requires-2
 put-bytes-requires-2 c κs = search rules

@@ -6,26 +6,14 @@ use borrow.Author.Rules.{rules}
 use Rattle.line.proofs.book_lines.put_sums.Statement.{statement}
 use Rattle.line.proofs.book_lines.put_sums.Tie as tie
 
-slice-aggregate-put-named : tie.Need-slice-aggregate-put-named
-slice-aggregate-put-named c = search rules
-
 put-named-requires : tie.Need-put_named-at-requires
 put-named-requires c κs = search rules
-
-slice-aggregate-put-named-2 : tie.Need-slice-aggregate-put-named-2
-slice-aggregate-put-named-2 c = search rules
 
 put-named-requires-2 : tie.Need-put_named-at-requires-2
 put-named-requires-2 c κs = search rules
 
-slice-aggregate-put-named-3 : tie.Need-slice-aggregate-put-named-3
-slice-aggregate-put-named-3 c = search rules
-
 put-named-requires-3 : tie.Need-put_named-at-requires-3
 put-named-requires-3 c κs = search rules
-
-slice-aggregate-put-named-4 : tie.Need-slice-aggregate-put-named-4
-slice-aggregate-put-named-4 c = search rules
 
 put-named-requires-4 : tie.Need-put_named-at-requires-4
 put-named-requires-4 c κs = search rules

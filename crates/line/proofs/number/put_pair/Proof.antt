@@ -23,7 +23,7 @@ same_length c = search rules
 returns : tie.Need-returns
 returns c =
     let one = c.before.before.before.before.before.before.before in
-    rw (← one.before.glyph.ensures, ← c.before.before.before.glyph-2.ensures) (both one.put_byte-to.ensures c.before.before.put_byte-to.ensures)
+    rw (← one.before.glyph.ensures, ← c.before.before.before.glyph-2.ensures) (both one.put_byte-to.ensures c.before.before.put_byte.ensures)
 
 pub put_pair_spec : {M : Type 1} → statement M
 put_pair_spec =

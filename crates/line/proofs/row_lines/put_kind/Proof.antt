@@ -31,7 +31,7 @@ returns c =
     let p3 = p4.before.before.before.before in
     let p2 = p3.before.before.before.before in
     let p1 = p2.before.before.before.before in
-    both p1.put_field-at.ensures (both p2.put_field-at-2.ensures (both p3.put_field-at-3.ensures (both p4.put_field-at-4.ensures p5.put_field-at.ensures)))
+    both p1.put_field-at.ensures (both p2.put_field-at-2.ensures (both p3.put_field-at-3.ensures (both p4.put_field-at-4.ensures p5.put_field.ensures)))
 
 pub put_kind_spec : {M : Type 1} → statement M
 put_kind_spec =

@@ -44,7 +44,7 @@ returns c =
     let p3 = p4.before.before.before.before in
     let p2 = p3.before.before.before.before in
     let p1 = p2.before.before.before.before in
-    loosen (omega arith) (both p1.put_count-at.ensures (both p2.put_byte-at.ensures (both p3.put_byte-at-2.ensures (both p4.put_kind-at.ensures (both p5.put_kind-at-2.ensures (both p6.put_kind-at-3.ensures (both p7.put_field-at.ensures p8.put_byte-at.ensures)))))))
+    loosen (omega arith) (both p1.put_count-at.ensures (both p2.put_byte-at.ensures (both p3.put_byte-at-2.ensures (both p4.put_kind-at.ensures (both p5.put_kind-at-2.ensures (both p6.put_kind-at-3.ensures (both p7.put_field-at.ensures p8.put_byte.ensures)))))))
 
 pub put_row_spec : {M : Type 1} → statement M
 put_row_spec =

@@ -27,7 +27,7 @@ returns c =
     let p3 = p4.before.before.before.before in
     let p2 = p3.before.before.before.before in
     let p1 = p2.before.before.before.before in
-    both p1.put_unsigned-at.ensures (both p2.put_unsigned-at-2.ensures (both p3.put_unsigned-at-3.ensures p4.put_unsigned-at.ensures))
+    both p1.put_unsigned-at.ensures (both p2.put_unsigned-at-2.ensures (both p3.put_unsigned-at-3.ensures p4.put_unsigned.ensures))
 
 pub put_rounding_spec : {M : Type 1} → statement M
 put_rounding_spec =

@@ -23,7 +23,7 @@ returns c =
     let p3 = c.before.before in
     let p2 = p3.before.before.before.before in
     let p1 = p2.before.before.before.before in
-    both p1.put_rounding-at.ensures (both p2.put_rounding-at-2.ensures p3.put_rounding-at.ensures)
+    both p1.put_rounding-at.ensures (both p2.put_rounding-at-2.ensures p3.put_rounding.ensures)
 
 pub put_roundings_spec : {M : Type 1} → statement M
 put_roundings_spec =

@@ -40,7 +40,7 @@ returns c =
     let p3 = p4.before.before.before.before in
     let p2 = p3.before.before.before.before in
     let p1 = p2.before.before.before.before in
-    loosen (omega arith) (both p1.put_count-at.ensures (both p2.put_byte-at.ensures (both p3.put_byte-at-2.ensures (both p4.put_field-at.ensures (both p5.put_unsigned-at.ensures (both p6.put_roundings-at.ensures p7.put_byte-at.ensures))))))
+    loosen (omega arith) (both p1.put_count-at.ensures (both p2.put_byte-at.ensures (both p3.put_byte-at-2.ensures (both p4.put_field-at.ensures (both p5.put_unsigned-at.ensures (both p6.put_roundings-at.ensures p7.put_byte.ensures))))))
 
 pub put_shares_spec : {M : Type 1} → statement M
 put_shares_spec =

@@ -6,20 +6,11 @@ use borrow.Author.Rules.{rules}
 use Rattle.line.proofs.short_lines.put_counts.Statement.{statement}
 use Rattle.line.proofs.short_lines.put_counts.Tie as tie
 
-slice-aggregate-put-kind-counts : tie.Need-slice-aggregate-put-kind-counts
-slice-aggregate-put-kind-counts c = search rules
-
 put-kind-counts-requires : tie.Need-put_kind_counts-at-requires
 put-kind-counts-requires c κs = search rules
 
-slice-aggregate-put-kind-counts-2 : tie.Need-slice-aggregate-put-kind-counts-2
-slice-aggregate-put-kind-counts-2 c = search rules
-
 put-kind-counts-requires-2 : tie.Need-put_kind_counts-at-requires-2
 put-kind-counts-requires-2 c κs = search rules
-
-slice-aggregate-put-kind-counts-3 : tie.Need-slice-aggregate-put-kind-counts-3
-slice-aggregate-put-kind-counts-3 c = search rules
 
 put-kind-counts-requires-3 : tie.Need-put_kind_counts-requires
 put-kind-counts-requires-3 c κs = search rules
@@ -33,7 +24,7 @@ returns c =
     let p3 = c.before.before in
     let p2 = p3.before.before.before.before.before in
     let p1 = p2.before.before.before.before.before in
-    loosen (omega arith) (both p1.put_kind_counts-at.ensures (both p2.put_kind_counts-at-2.ensures p3.put_kind_counts-at.ensures))
+    loosen (omega arith) (both p1.put_kind_counts-at.ensures (both p2.put_kind_counts-at-2.ensures p3.put_kind_counts.ensures))
 
 pub put_counts_spec : {M : Type 1} → statement M
 put_counts_spec =

@@ -12,14 +12,8 @@ put-byte-requires c κs = search rules
 put-bytes-requires : tie.Need-put_bytes-at-requires
 put-bytes-requires c κs = search rules
 
-slice-aggregate-put-side-count : tie.Need-slice-aggregate-put-side-count
-slice-aggregate-put-side-count c = search rules
-
 put-side-count-requires : tie.Need-put_side_count-at-requires
 put-side-count-requires c κs = search rules
-
-slice-aggregate-put-side-count-2 : tie.Need-slice-aggregate-put-side-count-2
-slice-aggregate-put-side-count-2 c = search rules
 
 put-side-count-requires-2 : tie.Need-put_side_count-at-requires-2
 put-side-count-requires-2 c κs = search rules
@@ -39,7 +33,7 @@ returns c =
     let p2 = p3.before.before.before.before.before in
     let p1 = p2.before.before.before.before in
     let start = p1.before.before.before.before in
-    loosen (omega (arith, start.requires.1)) (both p1.put_byte-at.ensures (both p2.put_bytes-at.ensures (both p3.put_side_count-at.ensures (both p4.put_side_count-at-2.ensures p5.put_byte-at.ensures))))
+    loosen (omega (arith, start.requires.1)) (both p1.put_byte-at.ensures (both p2.put_bytes-at.ensures (both p3.put_side_count-at.ensures (both p4.put_side_count-at-2.ensures p5.put_byte.ensures))))
 
 pub put_kind_counts_spec : {M : Type 1} → statement M
 put_kind_counts_spec =

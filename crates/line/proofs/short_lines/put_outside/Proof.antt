@@ -41,7 +41,7 @@ returns c =
     let p2 = p3.before.before.before.before in
     let p1 = p2.before.before.before.before in
     let start = p1.before.before.before.before.before in
-    loosen (omega (arith, start.requires.1, start.requires.2)) (both p1.put_count-at.ensures (both p2.put_byte-at.ensures (both p3.put_byte-at-2.ensures (both p4.put_bytes-at.ensures (both p5.put_bytes-at-2.ensures (both p6.put_count-at-2.ensures p7.put_byte-at.ensures))))))
+    loosen (omega (arith, start.requires.1, start.requires.2)) (both p1.put_count-at.ensures (both p2.put_byte-at.ensures (both p3.put_byte-at-2.ensures (both p4.put_bytes-at.ensures (both p5.put_bytes-at-2.ensures (both p6.put_count-at-2.ensures p7.put_byte.ensures))))))
 
 pub put_outside_spec : {M : Type 1} → statement M
 put_outside_spec =

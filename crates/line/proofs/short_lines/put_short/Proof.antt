@@ -6,20 +6,11 @@ use borrow.Author.Rules.{rules}
 use Rattle.line.proofs.short_lines.put_short.Statement.{statement}
 use Rattle.line.proofs.short_lines.put_short.Tie as tie
 
-slice-aggregate-put-side : tie.Need-slice-aggregate-put-side
-slice-aggregate-put-side c = search rules
-
 put-side-requires : tie.Need-put_side-at-requires
 put-side-requires c κs = search rules
 
-slice-aggregate-put-side-2 : tie.Need-slice-aggregate-put-side-2
-slice-aggregate-put-side-2 c = search rules
-
 put-side-requires-2 : tie.Need-put_side-at-requires-2
 put-side-requires-2 c κs = search rules
-
-slice-aggregate-put-side-3 : tie.Need-slice-aggregate-put-side-3
-slice-aggregate-put-side-3 c = search rules
 
 put-side-requires-3 : tie.Need-put_side-requires
 put-side-requires-3 c κs = search rules
@@ -33,7 +24,7 @@ returns c =
     let p3 = c.before.before in
     let p2 = p3.before.before.before.before.before in
     let p1 = p2.before.before.before.before.before in
-    loosen (omega arith) (both p1.put_side-at.ensures (both p2.put_side-at-2.ensures p3.put_side-at.ensures))
+    loosen (omega arith) (both p1.put_side-at.ensures (both p2.put_side-at-2.ensures p3.put_side.ensures))
 
 pub put_short_spec : {M : Type 1} → statement M
 put_short_spec =

@@ -14,35 +14,29 @@ enum_told c = search rules
 enum-known-kw : tie.Need-enum_known-kw
 enum-known-kw c = search rules
 
-slice-aggregate-put-outside : tie.Need-slice-aggregate-put-outside
-slice-aggregate-put-outside c = search rules
-
 put-outside-requires : tie.Need-put_outside-requires
 put-outside-requires c κs = search rules
 
 enum-known-kw-2 : tie.Need-enum_known-kw-in-Above-1
 enum-known-kw-2 c = search rules
 
-slice-aggregate-put-outside-2 : tie.Need-slice-aggregate-put-outside-2
-slice-aggregate-put-outside-2 c = search rules
-
 put-outside-requires-2 : tie.Need-put_outside-requires-in-Above
 put-outside-requires-2 c κs = search rules
 
 returns : tie.Need-returns-in-Within
-returns c = rw (← c.before.before.side.ensures, c.in-Within.is) (loosen (omega arith) (none _ _ (omega (arith, c.before.before.before.before.before.requires.0))))
+returns c = rw (← c.before.side.ensures, c.in-Within.is) (loosen (omega arith) (none _ _ (omega (arith, c.before.before.before.before.requires.0))))
 
 same_length : tie.Need-shape_of-buf-in-Below
 same_length c = search rules
 
 returns-2 : tie.Need-returns-in-Below
-returns-2 c = rw (← c.before.before.before.before.before.before.before.before.side.ensures, c.before.before.before.before.before.before.in-Below.is) c.before.before.put_outside.ensures
+returns-2 c = rw (← c.before.before.before.before.before.before.before.side.ensures, c.before.before.before.before.before.before.in-Below.is) c.before.before.put_outside.ensures
 
 same-length-2 : tie.Need-shape_of-buf-in-Above
 same-length-2 c = search rules
 
 returns-3 : tie.Need-returns-in-Above
-returns-3 c = rw (← c.before.before.before.before.before.before.before.before.side.ensures, c.before.before.before.before.before.before.in-Above.is) c.before.before.put_outside-in-Above.ensures
+returns-3 c = rw (← c.before.before.before.before.before.before.before.side.ensures, c.before.before.before.before.before.before.in-Above.is) c.before.before.put_outside-in-Above.ensures
 
 pub put_side_spec : {M : Type 1} → statement M
 put_side_spec =
