@@ -12,5 +12,5 @@ returns c =
     let g = c.before.before.args in
     λ i. record { fcr = kw (c.setpoint.ensures.is i); afrr = g.x.afrr_setpoint; mfrr = g.mfrr }
 
-pub setpoints-of-spec : {M : Type 1} → statement M
-setpoints-of-spec = tie.close (tie.spec setpoint-requires returns)
+pub setpoints_of_spec : {M : Type 1} → statement M
+setpoints_of_spec = tie.close (tie.spec setpoint-requires returns)

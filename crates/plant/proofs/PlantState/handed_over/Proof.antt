@@ -7,5 +7,5 @@ use Rattle.plant.proofs.PlantState.handed_over.Tie as tie
 returns : tie.Need-returns
 returns c = (refl, λ sh r. record { sheet = r.sheet; count = omega arith; fcr = r.fcr; afrr = r.afrr; mfrr = r.mfrr })
 
-pub handed-over-spec : {M : Type 1} → statement M
-handed-over-spec = tie.close (tie.spec returns)
+pub handed_over_spec : {M : Type 1} → statement M
+handed_over_spec = tie.close (tie.spec returns)
