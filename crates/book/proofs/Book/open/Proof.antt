@@ -7,26 +7,26 @@ use Rattle.book.proofs.Opening.{refused, opened}
 use Rattle.book.proofs.Book.open.Statement.{statement}
 use Rattle.book.proofs.Book.open.Tie as tie
 
-number-requires : tie.Need-number-requires
+number-requires : tie.Need-number-number-requires
 number-requires c κs = search rules
 
-default-sheet-requires : tie.Need-default-sheet-requires
+default-sheet-requires : tie.Need-default_sheet-requires
 default-sheet-requires c κs = search rules
 
 new-requires : tie.Need-new-requires
 new-requires c κs = search rules
 
-returns : tie.Need-returns
+returns : tie.Need-returns-then-number-ne0
 returns c =
     let d = c.before in
     let t = d.before in
-    refused _ t.before.number.ensures t.if1.true (c.new.ensures.0 ∙ ap fresh d.default-sheet.ensures.0) c.new.ensures.1
+    refused _ t.before.number-number.ensures t.if-number-ne0.true (c.new.ensures.0 ∙ ap fresh d.default_sheet.ensures.0) c.new.ensures.1
 
 new-requires-2 : tie.Need-new-requires-2
-new-requires-2 c κs = in_range _ (sym c.before.number.ensures ∙ c.if1.false)
+new-requires-2 c κs = in_range _ (sym c.before.number-number.ensures ∙ c.if-number-ne0.false)
 
-returns-2 : tie.Need-returns-2
-returns-2 c = opened _ c.before.before.number.ensures c.before.if1.false c.new2.ensures.0 c.new2.ensures.1
+returns-2 : tie.Need-returns
+returns-2 c = opened _ c.before.before.number-number.ensures c.before.if-number-ne0.false c.new-2.ensures.0 c.new-2.ensures.1
 
 pub open_spec : {M : Type 1} → statement M
 open_spec =

@@ -10,65 +10,65 @@ use Rattle.book.proofs.Book.second.Statement.{statement}
 use Rattle.book.proofs.Book.second.Tie as tie
 
 -- where no number applies there are 108 bytes
-abbrev bytes : tie.Else1 → List ℕ
+abbrev bytes : tie.Else-number-ne0 → List ℕ
 bytes i = i.before.before.before.args.bytes.now
 
-long : (i : tie.Else1) → length (bytes i) ≡ 108
-long i = whole _ _ (sym i.before.form-number.ensures ∙ i.if1.false)
+long : (i : tie.Else-number-ne0) → length (bytes i) ≡ 108
+long i = whole _ _ (sym i.before.form_number-number.ensures ∙ i.if-number-ne0.false)
 
-form-number-requires : tie.Need-form-number-requires
+form-number-requires : tie.Need-form_number-number-requires
 form-number-requires c κs = search rules
 
-returns : tie.Need-returns
-returns c = refused _ _ _ c.before.form-number.ensures c.if1.true c.before.before.before.requires
+returns : tie.Need-returns-then-number-ne0
+returns c = refused _ _ _ c.before.form_number-number.ensures c.if-number-ne0.true c.before.before.before.requires
 
-mul-b-at : tie.Need-overflow-mul-b-at
+mul-b-at : tie.Need-overflow_mul-b_at
 mul-b-at c = search rules
 
-slice-aggregate-plants : tie.Need-slice-aggregate-plants
+slice-aggregate-plants : tie.Need-slice_bounds-plants-end
 slice-aggregate-plants c =
-    let i = c.before in
+    let i = c in
     let l = long i in
     sym (unit_length (bytes i) l)
 
-sub-plants : tie.Need-overflow-sub-plants
+sub-plants : tie.Need-slice_bounds-plants-count
 sub-plants c = search rules
 
-part-plants-start : tie.Need-slice-bounds-plants-start
+part-plants-start : tie.Need-slice_bounds-plants-start
 part-plants-start c = search rules
 
-part-plants-end : tie.Need-slice-bounds-plants-end
+part-plants-end : tie.Need-slice_bounds-plants-end-2
 part-plants-end c =
+    let i = c in
+    let l = long i in
+    search rules
+
+sub-plants-2 : tie.Need-slice_bounds-plants-count-2
+sub-plants-2 c =
+    let i = c.before in
+    let l = long i in
+    omega arith
+
+part-plants-start-2 : tie.Need-slice_bounds-plants-start-2
+part-plants-start-2 c =
     let i = c.before in
     let l = long i in
     search rules
 
-sub-plants-2 : tie.Need-overflow-sub-plants-2
-sub-plants-2 c =
-    let i = c.before.before in
-    let l = long i in
-    omega arith
-
-part-plants-start-2 : tie.Need-slice-bounds-plants-start-2
-part-plants-start-2 c =
-    let i = c.before.before in
-    let l = long i in
-    search rules
-
-part-plants-end-2 : tie.Need-slice-bounds-plants-end-2
+part-plants-end-2 : tie.Need-slice_bounds-plants-end-3
 part-plants-end-2 c = search rules
 
 plants-requires : tie.Need-plants-requires
 plants-requires c κs =
-    let i = c.before.before.before in
+    let i = c.before.before in
     let l = long i in
     (i.before.before.before.requires, unit_length (bytes i) l, a_length (bytes i) l, ap length (to_the_end (bytes i) l (length (bytes i) - 72) (omega arith)) ∙ b_length (bytes i) l)
 
-returns-2 : tie.Need-returns-2
+returns-2 : tie.Need-returns
 returns-2 c =
-    let i = c.before.before.before.before in
+    let i = c.before.before.before in
     let l = long i in
-    stepped _ _ _ i.before.before.before.requires c.plants.result (sym i.before.form-number.ensures ∙ i.if1.false)
+    stepped _ _ _ i.before.before.before.requires c.plants.result (sym i.before.form_number-number.ensures ∙ i.if-number-ne0.false)
     (record { unit_part = refl; a_part = refl; b_part = to_the_end (bytes i) l (length (bytes i) - 72) (omega arith) }) c.plants.ensures
 
 pub second_spec : {M : Type 1} → statement M

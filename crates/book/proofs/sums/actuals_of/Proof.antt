@@ -5,7 +5,7 @@ use borrow.Author.Rules.{rules}
 use Rattle.book.proofs.sums.actuals_of.Statement.{statement}
 use Rattle.book.proofs.sums.actuals_of.Tie as tie
 
-sum-of-requires : tie.Need-sum-of-requires
+sum-of-requires : tie.Need-sum_of-requires
 sum-of-requires c κs = search rules
 
 returns : tie.Need-returns
@@ -13,5 +13,5 @@ returns c =
     let r = c.before.args.r in
     c.sum_of.ensures ∙ ap (λ (z : ℤ). r.fcr.actual.0 +ℤ (r.afrr.actual.0 +ℤ z)) (sym (+ℤ_idr r.mfrr.actual.0))
 
-pub actuals-of-spec : {M : Type 1} → statement M
-actuals-of-spec = tie.close (tie.spec sum-of-requires returns)
+pub actuals_of_spec : {M : Type 1} → statement M
+actuals_of_spec = tie.close (tie.spec sum-of-requires returns)

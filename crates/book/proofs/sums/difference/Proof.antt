@@ -13,7 +13,7 @@ minus-requires c κs = search fit
 returns : tie.Need-returns
 returns c =
     let p = c.before.before.before.requires in
-    (c.minus.ensures, rw c.minus.ensures (less most_power most_power most_at_unit _ _ (omega arith) p.decreases p.working_point_is))
+    (c.minus.ensures, rw c.minus.ensures (less most_power most_power most_at_unit _ _ (omega arith) p.measured p.working_point_is))
 
-pub difference-spec : {M : Type 1} → statement M
-difference-spec = tie.close (tie.spec minus-requires returns)
+pub difference_spec : {M : Type 1} → statement M
+difference_spec = tie.close (tie.spec minus-requires returns)

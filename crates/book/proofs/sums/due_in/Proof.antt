@@ -6,37 +6,37 @@ use borrow.Author.Rules.{rules}
 use Rattle.book.proofs.sums.due_in.Statement.{statement}
 use Rattle.book.proofs.sums.due_in.Tie as tie
 
-fields-of-requires : tie.Need-fields-of-requires
+fields-of-requires : tie.Need-fields_of-requires
 fields-of-requires c κs = search rules
 
 difference-requires : tie.Need-difference-requires
-difference-requires c κs = rw c.fields-of.ensures c.before.before.before.before.requires.0.range
+difference-requires c κs = rw c.fields_of.ensures c.before.before.before.before.requires.0.range
 
-fields-of-requires-2 : tie.Need-fields-of-requires-2
+fields-of-requires-2 : tie.Need-fields_of-requires-2
 fields-of-requires-2 c κs = search rules
 
 difference-requires-2 : tie.Need-difference-requires-2
-difference-requires-2 c κs = rw c.fields-of2.ensures c.before.before.before.before.before.before.requires.1.range
+difference-requires-2 c κs = rw c.fields_of-2.ensures c.before.before.before.before.before.before.requires.1.range
 
-fields-of-requires-3 : tie.Need-fields-of-requires-3
+fields-of-requires-3 : tie.Need-fields_of-requires-3
 fields-of-requires-3 c κs = search rules
 
 difference-requires-3 : tie.Need-difference-requires-3
-difference-requires-3 c κs = rw c.fields-of3.ensures c.before.before.before.before.before.before.before.before.requires.2.range
+difference-requires-3 c κs = rw c.fields_of-3.ensures c.before.before.before.before.before.before.before.before.requires.2.range
 
-sum-of-requires : tie.Need-sum-of-requires
+sum-of-requires : tie.Need-sum_of-requires
 sum-of-requires c κs = search rules
 
 returns : tie.Need-returns
 returns c =
     c.sum_of.ensures
     ∙ (λ i.
-    (c.before.before.before.before.before.difference.ensures.0 ∙ ap difference c.before.before.before.before.before.before.fields-of.ensures) i
-    +ℤ ((c.before.before.before.difference2.ensures.0 ∙ ap difference c.before.before.before.before.fields-of2.ensures) i
-    +ℤ (c.before.difference3.ensures.0 ∙ ap difference c.before.before.fields-of3.ensures) i))
+    (c.before.before.before.before.before.difference.ensures.0 ∙ ap difference c.before.before.before.before.before.before.fields_of.ensures) i
+    +ℤ ((c.before.before.before.difference-2.ensures.0 ∙ ap difference c.before.before.before.before.fields_of-2.ensures) i
+    +ℤ (c.before.difference-3.ensures.0 ∙ ap difference c.before.before.fields_of-3.ensures) i))
 
-pub due-in-spec : {M : Type 1} → statement M
-due-in-spec =
+pub due_in_spec : {M : Type 1} → statement M
+due_in_spec =
     tie.close
     (tie.spec
     fields-of-requires

@@ -17,7 +17,7 @@ plus-requires-2 c κs =
 returns : tie.Need-returns
 returns c =
     let g = c.before.before.args in
-    c.plus2.ensures ∙ ap (λ (z : ℤ). g.x.0 +ℤ z) c.before.plus.ensures
+    c.plus-2.ensures ∙ ap (λ (z : ℤ). g.x.0 +ℤ z) c.before.plus.ensures
 
-pub sum-of-spec : {M : Type 1} → statement M
-sum-of-spec = tie.close (tie.spec plus-requires plus-requires-2 returns)
+pub sum_of_spec : {M : Type 1} → statement M
+sum_of_spec = tie.close (tie.spec plus-requires plus-requires-2 returns)

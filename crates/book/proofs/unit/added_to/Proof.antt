@@ -14,7 +14,7 @@ use borrow.Author.Rules.{rules}
 use Rattle.book.proofs.unit.added_to.Statement.{statement}
 use Rattle.book.proofs.unit.added_to.Tie as tie
 
-values-of-requires : tie.Need-values-of-requires
+values-of-requires : tie.Need-values_of-requires
 values-of-requires c κs = search rules
 
 sum-small : (s : tie.Start) → Within most_added (s.args.point.0 +ℤ values_of s.args.b s.args.r)
@@ -28,5 +28,5 @@ returns c =
     let e = c.plus.ensures ∙ ap (λ (v : ℤ). c.before.before.args.point.0 +ℤ v) c.before.values_of.ensures in
     (e, subst (Within most_added) (sym e) (sum-small c.before.before))
 
-pub added-to-spec : {M : Type 1} → statement M
-added-to-spec = tie.close (tie.spec values-of-requires plus-requires returns)
+pub added_to_spec : {M : Type 1} → statement M
+added_to_spec = tie.close (tie.spec values-of-requires plus-requires returns)
