@@ -135,7 +135,7 @@ fn plant_after_all(rt: &impl Print) -> io::Result<()> {
     let sheet = default_sheet();
     report(
         rt,
-        "plant_second_90001",
+        "plant-second-90001",
         plant_number(sheet, after_blank(sheet, record::MOST_SECONDS), &record),
     )
 }
@@ -144,7 +144,7 @@ fn owner_8(rt: &impl Print) -> io::Result<()> {
     let second = [0u8; record::BOOK_SIZE];
     report(
         rt,
-        "book_second_owner_8",
+        "book-second-owner-8",
         book_number(default_sheet(), 8, &second),
     )
 }
@@ -158,14 +158,14 @@ fn buffer_199(rt: &impl Print) -> io::Result<()> {
         open: zero,
         due: zero,
     };
-    report(rt, "line_buffer_199", line_number(&mut buffer, sums))
+    report(rt, "line-buffer-199", line_number(&mut buffer, sums))
 }
 
 fn plant_short(rt: &impl Print) -> io::Result<()> {
     let record = [0u8; 35];
     report(
         rt,
-        "plant_second_35_bytes",
+        "plant-second-35-bytes",
         plant_number(default_sheet(), PlantState::new(), &record),
     )
 }
@@ -174,7 +174,7 @@ fn book_short(rt: &impl Print) -> io::Result<()> {
     let second = [0u8; 107];
     report(
         rt,
-        "book_second_107_bytes",
+        "book-second-107-bytes",
         book_number(default_sheet(), 0, &second),
     )
 }
@@ -183,8 +183,8 @@ fn main(rt: HostRuntime) -> io::Result<()> {
     plant_after_all(&rt)?;
     owner_8(&rt)?;
     buffer_199(&rt)?;
-    report(&rt, "block_number_0", block_number(0))?;
-    report(&rt, "block_none_due", block_number(5))?;
+    report(&rt, "block-number-0", block_number(0))?;
+    report(&rt, "block-none-due", block_number(5))?;
     plant_short(&rt)?;
     book_short(&rt)?;
     writers::headers(&rt)?;
