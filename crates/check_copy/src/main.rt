@@ -9,7 +9,7 @@ ghost use Rattle.block.specs.Block.{block_says};
 ghost use Rattle.check_copy.specs.Copy.{header_copy, block_copy};
 
 use block::{Block, Header};
-use libc::{STDIN_FILENO, STDOUT_FILENO};
+use std::io::Read;
 
 // The header, written anew into the buffer.
 fn copy_header(bytes: &[u8], buf: &mut [u8]) -> Header
@@ -38,47 +38,60 @@ fn copy_block(bytes: &[u8], seconds: u32, n: u32, buf: &mut [u8]) -> Block
 }
 
 // Reads the header and sends it anew. The seconds that it gives; 0 where it is refused or can't be sent, as no block is due then.
-fn send_header(bytes: &mut [u8], buf: &mut [u8]) -> u32
+fn send_header<R: Read>(rt: &impl Print, input: &mut R, bytes: &mut [u8], buf: &mut [u8]) -> u32
     ensures { result ≤ most_seconds }
 {
-    let len = io::read_full(STDIN_FILENO, bytes);
+    let len = full_read::read_full(input, bytes);
     let header = copy_header(&bytes[..len], buf);
     let Header::Fields { owner: _, seconds } = header else {
         return 0;
     };
-    if !io::write_all(STDOUT_FILENO, buf) {
+    if rt.write_all(buf).is_err() {
         return 0;
     }
     seconds
 }
 
 // Reads block n and sends it anew; false where it is refused or can't be sent.
-fn send_block(bytes: &mut [u8], seconds: u32, n: u32, buf: &mut [u8]) -> bool {
-    let len = io::read_full(STDIN_FILENO, bytes);
+fn send_block<R: Read>(
+    rt: &impl Print,
+    input: &mut R,
+    bytes: &mut [u8],
+    seconds: u32,
+    n: u32,
+    buf: &mut [u8],
+) -> bool {
+    let len = full_read::read_full(input, bytes);
     let block = copy_block(&bytes[..len], seconds, n, buf);
     let Block::Seconds(_) = block else {
         return false;
     };
-    io::write_all(STDOUT_FILENO, buf)
+    rt.write_all(buf).is_ok()
 }
 
 // The blocks after the header.
-fn send_blocks(bytes: &mut [u8], seconds: u32, buf: &mut [u8])
+fn send_blocks<R: Read>(
+    rt: &impl Print,
+    input: &mut R,
+    bytes: &mut [u8],
+    seconds: u32,
+    buf: &mut [u8],
+)
     requires { seconds ≤ most_seconds }
 {
     let last = block::last_block(seconds);
     let mut n = 1;
     while n <= last {
-        if !send_block(bytes, seconds, n, buf) {
+        if !send_block(rt, input, bytes, seconds, n, buf) {
             return;
         }
         n += 1;
     }
 }
 
-fn main() {
+fn main(rt: HostRuntime) {
     let mut bytes = [0; block::SIZE];
     let mut buf = [0; block::SIZE];
-    let seconds = send_header(&mut bytes, &mut buf);
-    send_blocks(&mut bytes, seconds, &mut buf);
+    let seconds = send_header(&rt, &mut rt.stdin(), &mut bytes, &mut buf);
+    send_blocks(&rt, &mut rt.stdin(), &mut bytes, seconds, &mut buf);
 }

@@ -15,9 +15,9 @@ ghost use Rattle.check_cut.specs.Running.{Opens, start_by, Between, AfterBlock};
 use block::Header;
 use book::Book;
 use cut_run::Cut;
-use libc::{STDIN_FILENO, STDOUT_FILENO};
 use report::{Form, Plan, Run, TextLine, Verdict};
 use sheet::default_sheet;
+use std::io::Read;
 use tally::Tally;
 
 // Room for the text of a block: a second's three rows, and a sum line before each.
@@ -118,21 +118,30 @@ fn emptied(cut: Cut) -> Cut
     }
 }
 
-fn send(out: &[u8], end: usize) -> bool
+fn send(rt: &impl Print, out: &[u8], end: usize) -> bool
     requires { end ≤ length out.now }
 {
-    io::write_all(STDOUT_FILENO, &out[..end])
+    rt.write_all(&out[..end]).is_ok()
 }
 
 // Reads block n, runs it and sends its text.
-fn one_block(cut: Cut, plan: Plan, at: u32, n: u32, bytes: &mut [u8], out: &mut [u8]) -> Turn
+fn one_block<R: Read>(
+    rt: &impl Print,
+    input: &mut R,
+    cut: Cut,
+    plan: Plan,
+    at: u32,
+    n: u32,
+    bytes: &mut [u8],
+    out: &mut [u8],
+) -> Turn
     requires { Between cut × (cut.run.verdict ≡ Verdict.Accepted) × (cut_block_room ≤ length out.old) }
     ensures { AfterBlock plan at n cut result.cut }
 {
-    let len = io::read_full(STDIN_FILENO, bytes);
+    let len = full_read::read_full(input, bytes);
     let cut = cut_run::block(cut, plan, at, n, &bytes[..len], out);
     let run = cut.run;
-    let sent = send(out, run.used);
+    let sent = send(rt, out, run.used);
     Turn {
         cut: emptied(cut),
         sent,
@@ -153,7 +162,15 @@ fn goes_on(turn: Turn) -> bool
 }
 
 // Block after block, until one is refused or its text can't be sent.
-fn blocks(cut: Cut, plan: Plan, at: u32, bytes: &mut [u8], out: &mut [u8]) -> Turn
+fn blocks<R: Read>(
+    rt: &impl Print,
+    input: &mut R,
+    cut: Cut,
+    plan: Plan,
+    at: u32,
+    bytes: &mut [u8],
+    out: &mut [u8],
+) -> Turn
     requires { Between cut × (plan.seconds ≤ most_seconds) × (cut_block_room ≤ length out.old) }
     ensures { Between result.cut }
 {
@@ -164,25 +181,25 @@ fn blocks(cut: Cut, plan: Plan, at: u32, bytes: &mut [u8], out: &mut [u8]) -> Tu
         if !goes_on(turn) {
             return turn;
         }
-        turn = one_block(turn.cut, plan, at, n, bytes, out);
+        turn = one_block(rt, input, turn.cut, plan, at, n, bytes, out);
         n += 1;
     }
     turn
 }
 
 // What ends the text: the refusal so far, or what follows the last block.
-fn end_of(verdict: Verdict, bytes: &mut [u8]) -> Verdict
+fn end_of<R: Read>(input: &mut R, verdict: Verdict, bytes: &mut [u8]) -> Verdict
     requires { length bytes.old ≡ block_size }
 {
     if let Verdict::Refused(number) = verdict {
         return Verdict::Refused(number);
     }
-    let len = io::read_full(STDIN_FILENO, bytes);
+    let len = full_read::read_full(input, bytes);
     past_last(&bytes[..len])
 }
 
 // The last line, where all text before it was sent.
-fn finish(turn: Turn, bytes: &mut [u8], out: &mut [u8])
+fn finish<R: Read>(rt: &impl Print, input: &mut R, turn: Turn, bytes: &mut [u8], out: &mut [u8])
     requires { (length bytes.old ≡ block_size) × (cut_block_room ≤ length out.old) }
 {
     if !turn.sent {
@@ -191,21 +208,29 @@ fn finish(turn: Turn, bytes: &mut [u8], out: &mut [u8])
     let cut = turn.cut;
     let run = cut.run;
     let verdict = run.verdict;
-    let ending = end_of(verdict, bytes);
+    let ending = end_of(input, verdict, bytes);
     let end = report::add(out, 0, last_line(ending, run.book));
-    send(out, end);
+    send(rt, out, end);
 }
 
-fn main() {
+fn main(rt: HostRuntime) {
     let mut count = [0; 4];
     let mut bytes = [0; block::SIZE];
     let mut out = [0; ROOM];
-    io::read_full(STDIN_FILENO, &mut count);
-    let len = io::read_full(STDIN_FILENO, &mut bytes);
+    full_read::read_full(&mut rt.stdin(), &mut count);
+    let len = full_read::read_full(&mut rt.stdin(), &mut bytes);
     let opening = open(&bytes[..len]);
     let plan = opening.plan;
     let verdict = opening.verdict;
     let at = codec::read_u32(&count, 0);
-    let turn = blocks(start(verdict), plan, at, &mut bytes, &mut out);
-    finish(turn, &mut bytes, &mut out);
+    let turn = blocks(
+        &rt,
+        &mut rt.stdin(),
+        start(verdict),
+        plan,
+        at,
+        &mut bytes,
+        &mut out,
+    );
+    finish(&rt, &mut rt.stdin(), turn, &mut bytes, &mut out);
 }

@@ -12,11 +12,11 @@ ghost use Rattle.check_operations.specs.Numbers.{plant_number, book_number, line
 
 use block::{Block, read_block};
 use book::{Book, BookAnswer};
-use libc::STDOUT_FILENO;
 use line::{Answer, sum_line};
 use plant::PlantState;
 use row::{KwSeconds, Sums};
 use sheet::{Sheet, default_sheet};
+use std::io;
 
 // The seconds of the book that a block is read for: it has one block.
 const SECONDS: u32 = block::PER_BLOCK as u32;
@@ -118,39 +118,38 @@ fn block_number(number: u8) -> u8
 }
 
 // What was asked, and the number that refused it.
-fn say(what: &[u8], number: u8) {
-    io::write_all(STDOUT_FILENO, what);
+fn say(rt: &impl Print, what: &str, number: u8) -> io::Result<()> {
     if number == 0 {
-        io::write_all(STDOUT_FILENO, b" accepted");
-        return;
+        return print!(rt; "{what} accepted");
     }
-    io::write_all(STDOUT_FILENO, b" refused ");
-    io::print_decimal(STDOUT_FILENO, number as u64);
+    print!(rt; "{what} refused {number}")
 }
 
-fn report(what: &[u8], number: u8) {
-    say(what, number);
-    io::write_all(STDOUT_FILENO, b"\n");
+fn report(rt: &impl Print, what: &str, number: u8) -> io::Result<()> {
+    say(rt, what, number)?;
+    rt.print("\n")
 }
 
-fn plant_after_all() {
+fn plant_after_all(rt: &impl Print) -> io::Result<()> {
     let record = [0u8; record::SIZE];
     let sheet = default_sheet();
     report(
-        b"plant_second_90001",
+        rt,
+        "plant-second-90001",
         plant_number(sheet, after_blank(sheet, record::MOST_SECONDS), &record),
-    );
+    )
 }
 
-fn owner_8() {
+fn owner_8(rt: &impl Print) -> io::Result<()> {
     let second = [0u8; record::BOOK_SIZE];
     report(
-        b"book_second_owner_8",
+        rt,
+        "book-second-owner-8",
         book_number(default_sheet(), 8, &second),
-    );
+    )
 }
 
-fn buffer_199() {
+fn buffer_199(rt: &impl Print) -> io::Result<()> {
     let mut buffer = [0u8; 199];
     let zero = KwSeconds(0);
     let sums = Sums {
@@ -159,34 +158,36 @@ fn buffer_199() {
         open: zero,
         due: zero,
     };
-    report(b"line_buffer_199", line_number(&mut buffer, sums));
+    report(rt, "line-buffer-199", line_number(&mut buffer, sums))
 }
 
-fn plant_short() {
+fn plant_short(rt: &impl Print) -> io::Result<()> {
     let record = [0u8; 35];
     report(
-        b"plant_second_35_bytes",
+        rt,
+        "plant-second-35-bytes",
         plant_number(default_sheet(), PlantState::new(), &record),
-    );
+    )
 }
 
-fn book_short() {
+fn book_short(rt: &impl Print) -> io::Result<()> {
     let second = [0u8; 107];
     report(
-        b"book_second_107_bytes",
+        rt,
+        "book-second-107-bytes",
         book_number(default_sheet(), 0, &second),
-    );
+    )
 }
 
-fn main() {
-    plant_after_all();
-    owner_8();
-    buffer_199();
-    report(b"block_number_0", block_number(0));
-    report(b"block_none_due", block_number(5));
-    plant_short();
-    book_short();
-    writers::headers();
-    writers::blocks();
-    writers::one_buffer();
+fn main(rt: HostRuntime) -> io::Result<()> {
+    plant_after_all(&rt)?;
+    owner_8(&rt)?;
+    buffer_199(&rt)?;
+    report(&rt, "block-number-0", block_number(0))?;
+    report(&rt, "block-none-due", block_number(5))?;
+    plant_short(&rt)?;
+    book_short(&rt)?;
+    writers::headers(&rt)?;
+    writers::blocks(&rt)?;
+    writers::one_buffer(&rt)
 }

@@ -5,7 +5,7 @@ ghost use Rattle.check_operations.specs.Numbers.{said_number, Wrote};
 
 use crate::say;
 use block::Written;
-use libc::STDOUT_FILENO;
+use std::io;
 
 // The longest buffer, and the most bytes of seconds.
 const LONGEST: usize = block::SIZE + 1;
@@ -74,115 +74,140 @@ fn block_number(buf: &mut [u8], n: u32, seconds: &[u8]) -> u8
 }
 
 // The answer, and the weight of the buffer after it.
-fn report(what: &[u8], number: u8, buf: &[u8])
+fn report(rt: &impl Print, what: &str, number: u8, buf: &[u8]) -> io::Result<()>
     requires { length buf.now ≤ 513 }
 {
-    say(what, number);
-    io::write_all(STDOUT_FILENO, b" ");
-    io::print_decimal(STDOUT_FILENO, weight(buf));
-    io::write_all(STDOUT_FILENO, b"\n");
+    say(rt, what, number)?;
+    println!(rt; " {}", weight(buf))
 }
 
-fn header_into(what: &[u8], buf: &mut [u8], owner: u8, seconds: u32)
+fn header_into(
+    rt: &impl Print,
+    what: &str,
+    buf: &mut [u8],
+    owner: u8,
+    seconds: u32,
+) -> io::Result<()>
     requires { length buf.old ≤ 513 }
 {
     let number = header_number(buf, owner, seconds);
-    report(what, number, buf);
+    report(rt, what, number, buf)
 }
 
-fn block_into(what: &[u8], buf: &mut [u8], n: u32, seconds: &[u8])
+fn block_into(rt: &impl Print, what: &str, buf: &mut [u8], n: u32, seconds: &[u8]) -> io::Result<()>
     requires { length buf.old ≤ 513 }
 {
     let number = block_number(buf, n, seconds);
-    report(what, number, buf);
+    report(rt, what, number, buf)
 }
 
 // A header into the first `len` bytes of the buffer.
-fn header_part(what: &[u8], buf: &mut [u8], len: usize, owner: u8, seconds: u32)
+fn header_part(
+    rt: &impl Print,
+    what: &str,
+    buf: &mut [u8],
+    len: usize,
+    owner: u8,
+    seconds: u32,
+) -> io::Result<()>
     requires { (len ≤ length buf.old) × (len ≤ 513) }
 {
-    header_into(what, &mut buf[..len], owner, seconds);
+    header_into(rt, what, &mut buf[..len], owner, seconds)
 }
 
 // Block n into the first `len` bytes of the buffer.
-fn block_part(what: &[u8], buf: &mut [u8], len: usize, n: u32, seconds: &[u8])
+fn block_part(
+    rt: &impl Print,
+    what: &str,
+    buf: &mut [u8],
+    len: usize,
+    n: u32,
+    seconds: &[u8],
+) -> io::Result<()>
     requires { (len ≤ length buf.old) × (len ≤ 513) }
 {
-    block_into(what, &mut buf[..len], n, seconds);
+    block_into(rt, what, &mut buf[..len], n, seconds)
 }
 
 // A header into a buffer of `len` bytes.
-fn header(what: &[u8], len: usize, owner: u8, seconds: u32)
+fn header(rt: &impl Print, what: &str, len: usize, owner: u8, seconds: u32) -> io::Result<()>
     requires { len ≤ 513 }
 {
     let mut buf = [0u8; LONGEST];
     fill(&mut buf, BUFFER);
-    header_part(what, &mut buf, len, owner, seconds);
+    header_part(rt, what, &mut buf, len, owner, seconds)
 }
 
 // Block n with the first `bytes` of the seconds into a buffer of `len` bytes.
-fn block_of(what: &[u8], len: usize, n: u32, seconds: &[u8], bytes: usize)
+fn block_of(
+    rt: &impl Print,
+    what: &str,
+    len: usize,
+    n: u32,
+    seconds: &[u8],
+    bytes: usize,
+) -> io::Result<()>
     requires { (len ≤ 513) × (bytes ≤ length seconds.now) }
 {
     let mut buf = [0u8; LONGEST];
     fill(&mut buf, BUFFER);
-    block_part(what, &mut buf, len, n, &seconds[..bytes]);
+    block_part(rt, what, &mut buf, len, n, &seconds[..bytes])
 }
 
 // Block n with so many bytes of seconds into a buffer of `len` bytes.
-fn block(what: &[u8], len: usize, n: u32, bytes: usize)
+fn block(rt: &impl Print, what: &str, len: usize, n: u32, bytes: usize) -> io::Result<()>
     requires { (len ≤ 513) × (bytes ≤ 28080) }
 {
     let mut seconds = [0u8; MOST_BYTES];
     fill(&mut seconds, SECONDS);
-    block_of(what, len, n, &seconds, bytes);
+    block_of(rt, what, len, n, &seconds, bytes)
 }
 
-pub(crate) fn headers() {
-    header(b"write-header", 512, 2, 1);
-    header(b"write-header-most", 512, 7, 90000);
-    header(b"write-header-12-short", 511, 2, 1);
-    header(b"write-header-12-long", 513, 2, 1);
-    header(b"write-header-12-empty", 0, 2, 1);
-    header(b"write-header-12-before-16", 511, 8, 1);
-    header(b"write-header-12-before-17", 513, 2, 0);
-    header(b"write-header-16", 512, 8, 1);
-    header(b"write-header-16-largest", 512, 255, 1);
-    header(b"write-header-16-before-17", 512, 8, 0);
-    header(b"write-header-17-none", 512, 7, 0);
-    header(b"write-header-17-one-more", 512, 0, 90001);
-    header(b"write-header-17-largest", 512, 0, 4294967295);
+pub(crate) fn headers(rt: &impl Print) -> io::Result<()> {
+    header(rt, "write-header", 512, 2, 1)?;
+    header(rt, "write-header-most", 512, 7, 90000)?;
+    header(rt, "write-header-12-short", 511, 2, 1)?;
+    header(rt, "write-header-12-long", 513, 2, 1)?;
+    header(rt, "write-header-12-empty", 0, 2, 1)?;
+    header(rt, "write-header-12-before-16", 511, 8, 1)?;
+    header(rt, "write-header-12-before-17", 513, 2, 0)?;
+    header(rt, "write-header-16", 512, 8, 1)?;
+    header(rt, "write-header-16-largest", 512, 255, 1)?;
+    header(rt, "write-header-16-before-17", 512, 8, 0)?;
+    header(rt, "write-header-17-none", 512, 7, 0)?;
+    header(rt, "write-header-17-one-more", 512, 0, 90001)?;
+    header(rt, "write-header-17-largest", 512, 0, 4294967295)
 }
 
-pub(crate) fn blocks() {
-    block(b"write-block-one", 512, 1, 108);
-    block(b"write-block-two", 512, 22500, 216);
-    block(b"write-block-three", 512, 16909060, 324);
-    block(b"write-block-four", 512, 4294967295, 432);
-    block(b"write-block-12-short", 511, 1, 108);
-    block(b"write-block-12-long", 513, 1, 108);
-    block(b"write-block-12-empty", 0, 1, 108);
-    block(b"write-block-12-before-19", 511, 0, 108);
-    block(b"write-block-12-before-23", 513, 1, 107);
-    block(b"write-block-19", 512, 0, 108);
-    block(b"write-block-19-before-23", 512, 0, 0);
-    block(b"write-block-23-none", 512, 1, 0);
-    block(b"write-block-23-less", 512, 1, 107);
-    block(b"write-block-23-more", 512, 1, 109);
-    block(b"write-block-23-one-byte-more", 512, 1, 433);
-    block(b"write-block-23-five", 512, 1, 540);
-    block(b"write-block-23-many", 512, 1, 28080);
+pub(crate) fn blocks(rt: &impl Print) -> io::Result<()> {
+    block(rt, "write-block-one", 512, 1, 108)?;
+    block(rt, "write-block-two", 512, 22500, 216)?;
+    block(rt, "write-block-three", 512, 16909060, 324)?;
+    block(rt, "write-block-four", 512, 4294967295, 432)?;
+    block(rt, "write-block-12-short", 511, 1, 108)?;
+    block(rt, "write-block-12-long", 513, 1, 108)?;
+    block(rt, "write-block-12-empty", 0, 1, 108)?;
+    block(rt, "write-block-12-before-19", 511, 0, 108)?;
+    block(rt, "write-block-12-before-23", 513, 1, 107)?;
+    block(rt, "write-block-19", 512, 0, 108)?;
+    block(rt, "write-block-19-before-23", 512, 0, 0)?;
+    block(rt, "write-block-23-none", 512, 1, 0)?;
+    block(rt, "write-block-23-less", 512, 1, 107)?;
+    block(rt, "write-block-23-more", 512, 1, 109)?;
+    block(rt, "write-block-23-one-byte-more", 512, 1, 433)?;
+    block(rt, "write-block-23-five", 512, 1, 540)?;
+    block(rt, "write-block-23-many", 512, 1, 28080)
 }
 
 // Three blocks one after the other into one buffer: none leaves a byte of the one before it.
-pub(crate) fn one_buffer() {
+pub(crate) fn one_buffer(rt: &impl Print) -> io::Result<()> {
     let mut buf = [0u8; block::SIZE];
     fill(&mut buf, BUFFER);
     let mut four = [0u8; block::PER_BLOCK * record::BOOK_SIZE];
     fill(&mut four, SECONDS);
-    block_into(b"write-block-first-of-two", &mut buf, 1, &four);
+    block_into(rt, "write-block-first-of-two", &mut buf, 1, &four)?;
     let mut one = [0u8; record::BOOK_SIZE];
     fill(&mut one, SECONDS);
-    block_into(b"write-block-over-it", &mut buf, 2, &one);
-    header_into(b"write-header-over-it", &mut buf, 5, 5);
+    block_into(rt, "write-block-over-it", &mut buf, 2, &one)?;
+    header_into(rt, "write-header-over-it", &mut buf, 5, 5)
 }

@@ -8,9 +8,9 @@ ghost use Rattle.afrr.specs.Values.{lower_at};
 
 use afrr::{AfrrState, Second};
 use fcr::FcrState;
-use libc::STDOUT_FILENO;
 use power::Kw;
 use sheet::Sheet;
+use std::io;
 
 // Document 01's figures: the default sheet with its least range of 5,000 kW.
 fn first_sheet() -> Sheet
@@ -63,36 +63,39 @@ fn lower_limit(second: u64) -> Kw
 }
 
 // The number of kW, with a minus sign where it is negative.
-fn print_kw(k: Kw) {
+fn print_kw(rt: &impl Print, k: Kw) -> io::Result<()> {
     if k.is_below(Kw(0)) {
-        io::write_all(STDOUT_FILENO, b"-");
+        rt.print("-")?;
     }
-    io::print_decimal(STDOUT_FILENO, k.magnitude());
+    rt.print(k.magnitude())
 }
 
 // The text, the second that it speaks of, and the power.
-fn line(text: &[u8], n: u64, k: Kw) {
-    io::write_all(STDOUT_FILENO, text);
-    io::print_decimal(STDOUT_FILENO, n);
-    io::write_all(STDOUT_FILENO, b": ");
-    print_kw(k);
-    io::write_all(STDOUT_FILENO, b"\n");
+fn line(rt: &impl Print, text: &str, n: u64, k: Kw) -> io::Result<()> {
+    print!(rt; "{text}{n}: ")?;
+    print_kw(rt, k)?;
+    rt.print("\n")
 }
 
-fn fcr_line(age: u64) {
-    line(b"FCR upper tolerance at age ", age, fall_tolerance(age));
+fn fcr_line(rt: &impl Print, age: u64) -> io::Result<()> {
+    line(rt, "FCR upper tolerance at age ", age, fall_tolerance(age))
 }
 
-fn afrr_line(second: u64) {
-    line(b"aFRR lower limit at second ", second, lower_limit(second));
+fn afrr_line(rt: &impl Print, second: u64) -> io::Result<()> {
+    line(
+        rt,
+        "aFRR lower limit at second ",
+        second,
+        lower_limit(second),
+    )
 }
 
-fn main() {
-    fcr_line(15);
-    fcr_line(16);
-    fcr_line(28);
-    afrr_line(29);
-    afrr_line(30);
-    afrr_line(285);
-    afrr_line(286);
+fn main(rt: HostRuntime) -> io::Result<()> {
+    fcr_line(&rt, 15)?;
+    fcr_line(&rt, 16)?;
+    fcr_line(&rt, 28)?;
+    afrr_line(&rt, 29)?;
+    afrr_line(&rt, 30)?;
+    afrr_line(&rt, 285)?;
+    afrr_line(&rt, 286)
 }

@@ -3,12 +3,11 @@ use mathlib.Core.Path.{◌≡◌, refl, sym, ap, ◌∙◌, subst}
 use mathlib.Core.List.{List, [], ◌∷◌, ◌++◌, append_assoc, append-nil}
 use Prim.Native.Nat.{ℕ, zero, suc, ◌+◌, ◌*◌, ◌-◌, ◌/◌, ◌≤◌, ◌<◌, zero-le}
 use native.Mathlib.Nat.{zero-add, le_of_eq}
-use native.Mathlib.Numerals.{add-one}
 use native.Mathlib.Omega.{arith}
 use lib.ListN.{length, take, drop, length-append, length-drop}
 use lib.Seq.{take_at, drop_at, drop-drop, take-add, length-take-le, take_all, take-append-le, drop-append-le}
 use Rattle.codec.specs.Put.{Put}
-use Rattle.codec.proofs.Puts.{both, loosen, sized, none, kept}
+use Rattle.codec.proofs.Puts.{both, loosen, sized, none}
 use Rattle.choose_meter.specs.Records.{record_size, said_in}
 use Rattle.choose_meter.specs.Printed.{line_text, lines_of, printed, whole_text, rest_of, told, line_width, piece_records, piece_room, Kept}
 use Rattle.choose_meter.specs.Claims.{joined}
@@ -109,13 +108,6 @@ pub moved :
     Kept b e q n r
 moved q n b {r = r} {e = e} h k f g =
     subst (λ (l : List ℕ). Put (n - q) b e 0 r l) (front f ∙ part_is q n b h k) (sized (le_of_eq (ap length (front f) ∙ part_length q n b h k)) g)
-
--- it fits the buffer that it comes from
-pub part_fits : (q n : ℕ) (b : List ℕ) {m f : ℕ} {z p : List ℕ} → q ≤ n → n ≤ length b → Put m z p 0 f (take (n - q) (drop q b)) → 0 + length (take f p) ≤ length b
-part_fits q n b h k f = omega (arith, ap length (front f), part_length q n b h k)
-
-pub put_fits : {m r : ℕ} {b e text : List ℕ} → Put m b e 0 r text → r ≤ length e
-put_fits f = omega (arith, f.room, kept f)
 
 pub rest_is : (n : ℕ) (b : List ℕ) → n ≤ length b → drop (n / record_size * record_size) (take n b) ≡ rest_of (take n b)
 unfolding rest_of

@@ -5,11 +5,12 @@
 mod lines;
 mod records;
 
-ghost use Rattle.std.specs.Prelude.{◌≤◌, ◌<◌, ◌≡◌, length};
+ghost use Rattle.std.specs.Prelude.{◌≤◌, ◌<◌, ◌≡◌, ◌+◌, length, IfOk};
 ghost use Rattle.choose_meter.specs.Records.{record_size};
 ghost use Rattle.choose_meter.specs.Printed.{piece_size, piece_room};
 
-use libc::{STDERR_FILENO, STDIN_FILENO, STDOUT_FILENO};
+use std::io;
+use std::io::Read;
 
 // No input is longer; each turn reads at least one byte.
 const MOST_TURNS: u64 = 0xffff_ffff_ffff_ffff;
@@ -28,47 +29,54 @@ struct Turn {
     filled: usize,
 }
 
-fn receive(bytes: &mut [u8], from: usize) -> isize
+// Reads behind the first `from` bytes.
+fn receive<R: Read>(input: &mut R, bytes: &mut [u8], from: usize) -> io::Result<usize>
     requires { from ≤ length bytes.old }
+    ensures { IfOk result (λ n. from + n ≤ length bytes.new) }
 {
-    libc::read(STDIN_FILENO, &mut bytes[from..])
+    input.read(&mut bytes[from..])
 }
 
-fn send(out: &[u8], end: usize) -> bool
+fn send(rt: &impl Print, out: &[u8], end: usize) -> bool
     requires { end ≤ length out.now }
 {
-    io::write_all(STDOUT_FILENO, &out[..end])
+    rt.write_all(&out[..end]).is_ok()
 }
 
-fn say(text: &[u8]) {
-    io::write_all(STDERR_FILENO, text);
+// On standard error; where that fails, nothing is left to be done.
+fn say(rt: &impl Eprint, text: &str) {
+    let _ = rt.eprint(text);
 }
 
 // Sends lines, and says so where that fails: nothing more is sent then.
-fn sent(out: &[u8], end: usize) -> Next
+fn sent(rt: &(impl Print + Eprint), out: &[u8], end: usize) -> Next
     requires { end ≤ length out.now }
 {
-    if send(out, end) {
+    if send(rt, out, end) {
         return Next::Read;
     }
-    say(b"the output could not be written\n");
+    say(rt, "the output could not be written\n");
     Next::Stop
 }
 
-// One turn: reads behind the bytes that are kept, takes, sends. An answer below 0 is a failure, 0 the end of the input.
-fn one_turn(bytes: &mut [u8], filled: usize, out: &mut [u8]) -> Turn
+// One turn: reads behind the bytes that are kept, takes, sends. Where no byte is read, the input has ended.
+fn one_turn<R: Read>(
+    rt: &(impl Print + Eprint),
+    input: &mut R,
+    bytes: &mut [u8],
+    filled: usize,
+    out: &mut [u8],
+) -> Turn
     requires { (filled < record_size) × (length bytes.old ≡ piece_size) × (piece_room ≤ length out.old) }
     ensures { result.filled < record_size }
 {
-    let got = receive(bytes, filled);
-    if got < 0 {
-        say(b"the input could not be read\n");
+    let Ok(n) = receive(input, bytes, filled) else {
+        say(rt, "the input could not be read\n");
         return Turn {
             next: Next::Stop,
             filled,
         };
-    }
-    let n = io::count(got, &bytes[filled..]);
+    };
     if n == 0 {
         return Turn {
             next: Next::Finish,
@@ -77,13 +85,18 @@ fn one_turn(bytes: &mut [u8], filled: usize, out: &mut [u8]) -> Turn
     }
     let taken = lines::take(bytes, filled + n, out);
     Turn {
-        next: sent(out, taken.used),
+        next: sent(rt, out, taken.used),
         filled: taken.filled,
     }
 }
 
 // Turn after turn, until the input ends or something failed.
-fn turns(bytes: &mut [u8], out: &mut [u8]) -> Turn
+fn turns<R: Read>(
+    rt: &(impl Print + Eprint),
+    input: &mut R,
+    bytes: &mut [u8],
+    out: &mut [u8],
+) -> Turn
     requires { (length bytes.old ≡ piece_size) × (piece_room ≤ length out.old) }
     ensures { result.filled < record_size }
 {
@@ -97,26 +110,26 @@ fn turns(bytes: &mut [u8], out: &mut [u8]) -> Turn
         let Next::Read = next else {
             return last;
         };
-        last = one_turn(bytes, last.filled, out);
+        last = one_turn(rt, input, bytes, last.filled, out);
         left -= 1;
     }
     last
 }
 
 // The line of a record cut short, unless something failed.
-fn finish(last: Turn, bytes: &[u8], out: &mut [u8])
+fn finish(rt: &(impl Print + Eprint), last: Turn, bytes: &[u8], out: &mut [u8])
     requires { (last.filled < record_size) × (record_size ≤ length bytes.now) × (piece_room ≤ length out.old) }
 {
     let next = last.next;
     if let Next::Finish = next {
         let end = lines::put_rest(out, &bytes[..last.filled]);
-        sent(out, end);
+        sent(rt, out, end);
     }
 }
 
-fn main() {
+fn main(rt: HostRuntime) {
     let mut bytes = [0; lines::PIECE];
     let mut out = [0; lines::ROOM];
-    let last = turns(&mut bytes, &mut out);
-    finish(last, &bytes, &mut out);
+    let last = turns(&rt, &mut rt.stdin(), &mut bytes, &mut out);
+    finish(&rt, last, &bytes, &mut out);
 }

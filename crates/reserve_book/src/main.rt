@@ -4,6 +4,6 @@
 use report::Form;
 use sheet::default_sheet;
 
-fn main() {
-    stdio::print_book(default_sheet(), Form::Line);
+fn main(rt: HostRuntime) {
+    stdio::print_book(&rt, &mut rt.stdin(), default_sheet(), Form::Line);
 }

@@ -6,7 +6,6 @@ ghost use Rattle.std.specs.Prelude.{◌≡◌, ◌≤◌, length};
 ghost use Rattle.line.specs.Widths.{row_room};
 ghost use Rattle.reserve_sheet.specs.Form.{sheet_size, sheet_of, spare_set, figure_out, form_number, IsRead};
 
-use libc::{STDIN_FILENO, STDOUT_FILENO};
 use power::Kw;
 use report::{Form, TextLine};
 use sheet::Sheet;
@@ -94,26 +93,31 @@ fn read(s: &[u8]) -> SheetReading
     SheetReading::Figures(sheet_of(s))
 }
 
-fn send(out: &[u8], end: usize) -> bool
+fn send(rt: &impl Print, out: &[u8], end: usize) -> bool
     requires { end ≤ length out.now }
 {
-    io::write_all(STDOUT_FILENO, &out[..end])
+    rt.write_all(&out[..end]).is_ok()
 }
 
-fn refuse(number: u8, out: &mut [u8])
+fn refuse(rt: &impl Print, number: u8, out: &mut [u8])
     requires { row_room ≤ length out.old }
 {
     let end = report::add(out, 0, TextLine::Refusal { number, seconds: 0 });
-    send(out, end);
+    send(rt, out, end);
 }
 
-fn main() {
+fn main(rt: HostRuntime) {
     let mut bytes = [0; SIZE];
     let mut out = [0; ROOM];
-    let n = io::read_full(STDIN_FILENO, &mut bytes);
+    let n = full_read::read_full(&mut rt.stdin(), &mut bytes);
     let reading = read(&bytes[..n]);
     match reading {
-        SheetReading::Refused(number) => refuse(number, &mut out),
-        SheetReading::Figures(sheet) => stdio::print_book(sheet, Form::Figures),
+        SheetReading::Refused(number) => refuse(&rt, number, &mut out),
+        SheetReading::Figures(sheet) => stdio::print_book(
+            &rt,
+            &mut rt.stdin(),
+            sheet,
+            Form::Figures,
+        ),
     }
 }

@@ -5,6 +5,6 @@
 use report::Form;
 use sheet::default_sheet;
 
-fn main() {
-    stdio::print_book(default_sheet(), Form::Short);
+fn main(rt: HostRuntime) {
+    stdio::print_book(&rt, &mut rt.stdin(), default_sheet(), Form::Short);
 }

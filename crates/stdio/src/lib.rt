@@ -2,15 +2,16 @@
 // is read and written (docs/READING.md). That it goes on from where the book stood is in its contracts (specs/Turns.antt).
 #![tactic(auto)]
 
-ghost use Rattle.std.specs.Prelude.{◌≤◌, length};
+ghost use Rattle.std.specs.Prelude.{◌≤◌, length, IfOk};
 ghost use Rattle.sheet.specs.Sheet.{InRange};
 ghost use Rattle.pieces.specs.Pieces.{ReadingReady, piece_size, piece_room};
 ghost use Rattle.stdio.specs.Turns.{After, AfterSome};
 
-use libc::{STDERR_FILENO, STDIN_FILENO, STDOUT_FILENO};
 use pieces::Reading;
 use report::Form;
 use sheet::Sheet;
+use std::io;
+use std::io::Read;
 
 // No book is longer, with the byte that is looked for after its last block; each turn reads at least one byte.
 const MOST_TURNS: usize = block::SIZE * (1 + record::MOST_SECONDS as usize) + 1;
@@ -29,48 +30,57 @@ struct Turn {
     reading: Reading,
 }
 
-fn receive(bytes: &mut [u8], wanted: usize) -> isize
+// Reads up to `wanted` bytes.
+fn receive<R: Read>(input: &mut R, bytes: &mut [u8], wanted: usize) -> io::Result<usize>
     requires { wanted ≤ length bytes.old }
+    ensures { IfOk result (λ n. n ≤ length bytes.new) }
 {
-    libc::read(STDIN_FILENO, &mut bytes[..wanted])
+    input.read(&mut bytes[..wanted])
 }
 
-fn send(out: &[u8], end: usize) -> bool
+fn send(rt: &impl Print, out: &[u8], end: usize) -> bool
     requires { end ≤ length out.now }
 {
-    io::write_all(STDOUT_FILENO, &out[..end])
+    rt.write_all(&out[..end]).is_ok()
 }
 
-fn say(text: &[u8]) {
-    io::write_all(STDERR_FILENO, text);
+// On standard error; where that fails, nothing is left to be done.
+fn say(rt: &impl Eprint, text: &str) {
+    let _ = rt.eprint(text);
 }
 
 // Sends the text of a piece, and says so where that fails: nothing more is sent then.
-fn sent(out: &[u8], end: usize) -> Next
+fn sent(rt: &(impl Print + Eprint), out: &[u8], end: usize) -> Next
     requires { end ≤ length out.now }
 {
-    if send(out, end) {
+    if send(rt, out, end) {
         return Next::Read;
     }
-    say(b"the output could not be written\n");
+    say(rt, "the output could not be written\n");
     Next::Stop
 }
 
 // Takes what was read, and sends its text.
-fn pass_on(reading: Reading, bytes: &[u8], out: &mut [u8]) -> Turn
+fn pass_on(rt: &(impl Print + Eprint), reading: Reading, bytes: &[u8], out: &mut [u8]) -> Turn
     requires { ReadingReady reading × (length bytes.now ≤ piece_size) × (piece_room ≤ length out.old) }
     ensures { After reading bytes.now result.reading }
 {
     let taken = reading.take(bytes, out);
     let reading = taken.reading;
     Turn {
-        next: sent(out, taken.used),
+        next: sent(rt, out, taken.used),
         reading,
     }
 }
 
-// One turn: reads, takes, sends. An answer below 0 is a failure, 0 the end of the input.
-fn one_turn(reading: Reading, bytes: &mut [u8], out: &mut [u8]) -> Turn
+// One turn: reads, takes, sends. Where no byte is read, the input has ended.
+fn one_turn<R: Read>(
+    rt: &(impl Print + Eprint),
+    input: &mut R,
+    reading: Reading,
+    bytes: &mut [u8],
+    out: &mut [u8],
+) -> Turn
     requires { ReadingReady reading × (piece_size ≤ length bytes.old) × (length bytes.old ≤ piece_size) × (piece_room ≤ length out.old) }
     ensures { AfterSome reading result.reading }
 {
@@ -81,26 +91,30 @@ fn one_turn(reading: Reading, bytes: &mut [u8], out: &mut [u8]) -> Turn
             reading,
         };
     }
-    let got = receive(bytes, wanted);
-    if got < 0 {
-        say(b"the input could not be read\n");
+    let Ok(n) = receive(input, bytes, wanted) else {
+        say(rt, "the input could not be read\n");
         return Turn {
             next: Next::Stop,
             reading,
         };
-    }
-    let n = io::count(got, bytes);
+    };
     if n == 0 {
         return Turn {
             next: Next::Finish,
             reading,
         };
     }
-    pass_on(reading, &bytes[..n], out)
+    pass_on(rt, reading, &bytes[..n], out)
 }
 
 // Turn after turn, until the last line is due or something failed.
-fn turns(reading: Reading, bytes: &mut [u8], out: &mut [u8]) -> Turn
+fn turns<R: Read>(
+    rt: &(impl Print + Eprint),
+    input: &mut R,
+    reading: Reading,
+    bytes: &mut [u8],
+    out: &mut [u8],
+) -> Turn
     requires { ReadingReady reading × (piece_size ≤ length bytes.old) × (length bytes.old ≤ piece_size) × (piece_room ≤ length out.old) }
     ensures { AfterSome reading result.reading }
 {
@@ -114,29 +128,29 @@ fn turns(reading: Reading, bytes: &mut [u8], out: &mut [u8]) -> Turn
         let Next::Read = next else {
             return last;
         };
-        last = one_turn(last.reading, bytes, out);
+        last = one_turn(rt, input, last.reading, bytes, out);
         left -= 1;
     }
     last
 }
 
 // The last line, unless something failed outside the book.
-fn finish(last: Turn, out: &mut [u8])
+fn finish(rt: &(impl Print + Eprint), last: Turn, out: &mut [u8])
     requires { ReadingReady last.reading × (piece_room ≤ length out.old) }
 {
     let next = last.next;
     if let Next::Finish = next {
         let end = last.reading.last_line(out);
-        sent(out, end);
+        sent(rt, out, end);
     }
 }
 
-// Prints the book on standard input under a sheet whose figures are in range.
-pub fn print_book(sheet: Sheet, form: Form)
+// Prints the book that the input gives under a sheet whose figures are in range.
+pub fn print_book<R: Read>(rt: &(impl Print + Eprint), input: &mut R, sheet: Sheet, form: Form)
     requires { InRange sheet }
 {
     let mut bytes = [0; pieces::PIECE];
     let mut out = [0; pieces::PIECE_ROOM];
-    let last = turns(Reading::new(sheet, form), &mut bytes, &mut out);
-    finish(last, &mut out);
+    let last = turns(rt, input, Reading::new(sheet, form), &mut bytes, &mut out);
+    finish(rt, last, &mut out);
 }

@@ -9,5 +9,5 @@ returns : tie.Need-returns
 unfolding first_figures
 returns c = (refl, claims.first_in_range)
 
-pub first-sheet-spec : {M : Type 1} → statement M
-first-sheet-spec = tie.close (tie.spec returns)
+pub first_sheet_spec : {M : Type 1} → statement M
+first_sheet_spec = tie.close (tie.spec returns)

@@ -40,59 +40,59 @@ fair =
       down_sign = record { le = tt };
     }
 
-abbrev invariant-loop : tie.invariant-loop
+abbrev invariant-loop : tie.invariant-loop-t
 invariant-loop second sheet x₀ step₀ t₀ step t = (t ≤ second) × Ready sheet step.state × (step ≡ answer sheet (replicate t x))
 
-abbrev decreases-loop : tie.decreases-loop
+abbrev decreases-loop : tie.decreases-loop-t
 decreases-loop second sheet x₀ step₀ t₀ step t = second - t
 
-first-sheet-requires : tie.Need-first-sheet-requires invariant-loop decreases-loop
+first-sheet-requires : tie.Need-first_sheet-sheet-requires invariant-loop decreases-loop
 first-sheet-requires c κs = search rules
 
 new-requires : tie.Need-new-requires invariant-loop decreases-loop
 new-requires c κs = search rules
 
-step-requires : tie.Need-step-requires invariant-loop decreases-loop
-step-requires c κs = (c.before.first-sheet.ensures.1, c.new.ensures.ready _, fair)
+step-requires : tie.Need-step-step-requires invariant-loop decreases-loop
+step-requires c κs = (c.before.first_sheet-sheet.ensures.1, c.new.ensures.ready _, fair)
 
-loop-holds : tie.Need-loop-init invariant-loop decreases-loop
+loop-holds : tie.Need-loop-t-init invariant-loop decreases-loop
 loop-holds c =
-    let e = c.step.ensures in
-    (omega arith, e.ready, follows _ c.before.before.first-sheet.ensures.1 [] _ _ (c.before.new.ensures.is _) e.is)
+    let e = c.step-step.ensures in
+    (omega arith, e.ready, follows _ c.before.before.first_sheet-sheet.ensures.1 [] _ _ (c.before.new.ensures.is _) e.is)
 
-step-requires-2 : tie.Need-step-requires-2 invariant-loop decreases-loop
+step-requires-2 : tie.Need-step-step-requires-in-loop-t invariant-loop decreases-loop
 step-requires-2 c κs =
     let l = c.before.before in
-    (l.before.before.before.first-sheet.ensures.1, l.loop.invariant.1, fair)
+    (l.before.before.before.first_sheet-sheet.ensures.1, l.loop-t.invariant.1, fair)
 
-add-t : tie.Need-overflow-add-t invariant-loop decreases-loop
+add-t : tie.Need-overflow_step-t invariant-loop decreases-loop
 add-t c =
     let l = c.before.before in
-    record { fits = omega (arith, l.loop-test.true, l.before.before.before.before.before.ranges) }
+    record { fits = omega (arith, l.loop-t-test.true, l.before.before.before.before.before.ranges) }
 
-loop-less : tie.Need-loop-smaller invariant-loop decreases-loop
+loop-less : tie.Need-loop-t-smaller invariant-loop decreases-loop
 loop-less c = search rules
 
-loop-again : tie.Need-loop-preserved invariant-loop decreases-loop
+loop-again : tie.Need-loop-t-preserved invariant-loop decreases-loop
 loop-again c =
     let b = c.before.before.before in
-    let l = b.loop in
-    let i = b.before.before.before.first-sheet.ensures.1 in
+    let l = b.loop-t in
+    let i = b.before.before.before.first_sheet-sheet.ensures.1 in
     let held-past = ap (λ (t : AfrrStep). t.state) l.invariant.2 in (
       omega arith,
-      c.step2.ensures.ready,
-      rw (add-one l.t) (follows _ i (replicate (suc l.t) x) _ _ held-past c.step2.ensures.is),
+      c.step-step-in-loop-t.ensures.ready,
+      rw (add-one l.t) (follows _ i (replicate (suc l.t) x) _ _ held-past c.step-step-in-loop-t.ensures.is),
     )
 
 returns : tie.Need-returns invariant-loop decreases-loop
 returns c =
     let b = c.before.before.before in
-    let l = b.loop in
+    let l = b.loop-t in
     let f = b.before.before.before in
     let e : l.t ≡ f.before.args.second = omega arith in
-    (λ i. (l.invariant.2 i).band.low.0) ∙ (λ i. lower_at (f.first-sheet.ensures.0 i) (e i))
+    (λ i. (l.invariant.2 i).band.low.0) ∙ (λ i. lower_at (f.first_sheet-sheet.ensures.0 i) (e i))
 
-pub lower-limit-spec : {M : Type 1} → statement M
-lower-limit-spec =
+pub lower_limit_spec : {M : Type 1} → statement M
+lower_limit_spec =
     tie.close
     (tie.spec invariant-loop decreases-loop first-sheet-requires new-requires step-requires loop-holds step-requires-2 add-t loop-less loop-again returns)
