@@ -4,29 +4,29 @@ use Rattle.report.proofs.Adding.{room_most, put_in_rest}
 use Rattle.report.proofs.lines.add.Statement.{statement}
 use Rattle.report.proofs.lines.add.Tie as tie
 
-sub-write : tie.Need-overflow-sub-write
+sub-write : tie.Need-slice_bounds-write-count
 sub-write c = search rules
 
-part-write-start : tie.Need-slice-bounds-write-start
+part-write-start : tie.Need-slice_bounds-write-start
 part-write-start c = search rules
 
-part-write-end : tie.Need-slice-bounds-write-end
+part-write-end : tie.Need-slice_bounds-write-end
 part-write-end c = search rules
 
 write-requires : tie.Need-write-requires
 write-requires c κs = search rules
 
-length-in-requires : tie.Need-length-in-requires
+length-in-requires : tie.Need-length_in-requires
 length-in-requires c κs = search rules
 
-add-result : tie.Need-overflow-add-result
+add-result : tie.Need-overflow_add-result
 add-result c = search rules
 
-same_length : tie.Need-same-length
+same_length : tie.Need-shape_of-out
 same_length c = search rules
 
 returns : tie.Need-returns
-returns c = put_in_rest c.before.before.before.before.before.before.requires (room_most c.before.before.before.before.before.before.args.text) c.length-in.ensures c.before.before.before.write.ensures
+returns c = put_in_rest c.before.before.before.before.before.before.requires (room_most c.before.before.before.before.before.before.args.text) c.length_in.ensures c.before.before.before.write.ensures
 
 pub add_spec : {M : Type 1} → statement M
 add_spec =

@@ -9,53 +9,53 @@ use Rattle.report.proofs.Seconds.{Through, start, onward, stopped, finished}
 use Rattle.report.proofs.run.run_seconds.Statement.{statement}
 use Rattle.report.proofs.run.run_seconds.Tie as tie
 
-abbrev invariant-loop : tie.invariant-loop
+abbrev invariant-loop : tie.invariant-loop-i
 invariant-loop used plan block count out₀ run₀ i₀ out run i = Through plan (kept_in run₀) block count out₀ out used run i
 
-abbrev decreases-loop : tie.decreases-loop
+abbrev decreases-loop : tie.decreases-loop-i
 decreases-loop used plan block count out₀ run₀ i₀ out run i = count - i
 
-accepted-requires : tie.Need-accepted-requires invariant-loop decreases-loop
+accepted-requires : tie.Need-accepted-run-requires invariant-loop decreases-loop
 accepted-requires c κs = search rules
 
-loop-holds : tie.Need-loop-init invariant-loop decreases-loop
-loop-holds c = rw c.accepted.ensures (start c.before.before.before.requires.0 (omega (arith, c.before.before.before.requires.3)))
+loop-holds : tie.Need-loop-i-init invariant-loop decreases-loop
+loop-holds c = rw c.accepted-run.ensures (start c.before.before.before.requires.0 (omega (arith, c.before.before.before.requires.3)))
 
 second-requires : tie.Need-second-requires invariant-loop decreases-loop
 second-requires c κs = search rules
 
-run-second-requires : tie.Need-run-second-requires invariant-loop decreases-loop
+run-second-requires : tie.Need-run_second-run-requires invariant-loop decreases-loop
 run-second-requires c κs = search rules
 
-enum_told : tie.Need-enum-told invariant-loop decreases-loop
+enum_told : tie.Need-enum_told-1 invariant-loop decreases-loop
 enum_told c = search rules
 
-same_length : tie.Need-same-length invariant-loop decreases-loop
+same_length : tie.Need-shape_of-out-in-Refused invariant-loop decreases-loop
 same_length c = search rules
 
-returns : tie.Need-returns invariant-loop decreases-loop
-returns c = rw (ap kept_in c.before.before.before.before.before.before.before.before.before.accepted.ensures) at (stopped c.before.before.before.before.before.before.before.before.loop.invariant c.before.before.before.before.before.before.before.loop-test.true c.before.before.before.before.before.before.second.ensures.bytes c.before.before.before.before.run-second.ensures c.before.before.before.before.before.before.before.before.before.before.before.before.requires.2 c.enum_told.given.1)
+returns : tie.Need-returns-in-Refused invariant-loop decreases-loop
+returns c = rw (ap kept_in c.before.before.before.before.before.before.before.before.before.accepted-run.ensures) at (stopped c.before.before.before.before.before.before.before.before.loop-i.invariant c.before.before.before.before.before.before.before.loop-i-test.true c.before.before.before.before.before.second.ensures.bytes c.before.before.before.run_second-run.ensures c.before.before.before.before.before.before.before.before.before.before.before.before.requires.2 c.in-Refused.is)
 
-enum-told-2 : tie.Need-enum-told-2 invariant-loop decreases-loop
+enum-told-2 : tie.Need-enum_told-in_default invariant-loop decreases-loop
 enum-told-2 c = search rules
 
-add-i : tie.Need-overflow-add-i invariant-loop decreases-loop
-add-i c = omega (arith, c.before.before.before.before.before.before.before.loop-test.true, c.before.before.before.before.before.before.before.before.before.before.before.before.requires.2)
+add-i : tie.Need-overflow_add-i invariant-loop decreases-loop
+add-i c = omega (arith, c.before.before.before.before.before.before.before.loop-i-test.true, c.before.before.before.before.before.before.before.before.before.before.before.before.requires.2)
 
-loop-less : tie.Need-loop-smaller invariant-loop decreases-loop
+loop-less : tie.Need-loop-i-smaller invariant-loop decreases-loop
 loop-less c = search rules
 
-loop-again : tie.Need-loop-preserved invariant-loop decreases-loop
-loop-again c = onward c.before.before.before.before.before.before.before.before.loop.invariant c.before.before.before.before.before.before.before.loop-test.true c.before.before.before.before.before.before.second.ensures.bytes c.before.before.before.before.run-second.ensures c.enum-told2.given.1
+loop-again : tie.Need-loop-i-preserved invariant-loop decreases-loop
+loop-again c = onward c.before.before.before.before.before.before.before.before.loop-i.invariant c.before.before.before.before.before.before.before.loop-i-test.true c.before.before.before.before.before.second.ensures.bytes c.before.before.before.run_second-run.ensures c.in_default.is
 
-same-length-2 : tie.Need-same-length-2 invariant-loop decreases-loop
+same-length-2 : tie.Need-shape_of-out invariant-loop decreases-loop
 same-length-2 c = search rules
 
-returns-2 : tie.Need-returns-2 invariant-loop decreases-loop
-returns-2 c = rw (ap kept_in c.before.before.accepted.ensures) at (finished c.before.loop.invariant c.loop-test.false c.before.before.before.before.before.requires.2)
+returns-2 : tie.Need-returns invariant-loop decreases-loop
+returns-2 c = rw (ap kept_in c.before.before.accepted-run.ensures) at (finished c.before.loop-i.invariant c.loop-i-test.false c.before.before.before.before.before.requires.2)
 
-pub run-seconds-spec : {M : Type 1} → statement M
-run-seconds-spec =
+pub run_seconds_spec : {M : Type 1} → statement M
+run_seconds_spec =
     tie.close
     (tie.spec
     invariant-loop
