@@ -4,16 +4,16 @@ use borrow.Author.Rules.{rules}
 use Rattle.standing.proofs.Standing.end.Statement.{statement}
 use Rattle.standing.proofs.Standing.end.Tie as tie
 
-is-due-requires : tie.Need-is-due-requires
+is-due-requires : tie.Need-is_due-requires
 is-due-requires c κs = search rules
 
-returns : tie.Need-returns
+returns : tie.Need-returns-then-is_due
 unfolding end_of
-returns c = rw (← c.before.is-due.ensures, c.if1.true)
+returns c = rw (← c.before.is_due.ensures, c.if-is_due.true)
 
-returns-2 : tie.Need-returns-2
+returns-2 : tie.Need-returns
 unfolding end_of
-returns-2 c = rw (← c.before.is-due.ensures, c.if1.false)
+returns-2 c = rw (← c.before.is_due.ensures, c.if-is_due.false)
 
-pub end-spec : {M : Type 1} → statement M
-end-spec = tie.close (tie.spec is-due-requires returns returns-2)
+pub end_spec : {M : Type 1} → statement M
+end_spec = tie.close (tie.spec is-due-requires returns returns-2)

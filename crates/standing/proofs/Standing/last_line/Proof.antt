@@ -7,19 +7,19 @@ use Rattle.standing.proofs.Standing.last_line.Tie as tie
 end-requires : tie.Need-end-requires
 end-requires c κs = search rules
 
-enum_told : tie.Need-enum-told
+enum_told : tie.Need-enum_told-1
 enum_told c = search rules
 
-enum-known-number : tie.Need-enum-known-number
+enum-known-number : tie.Need-enum_known-number
 enum-known-number c = search rules
 
-returns : tie.Need-returns
+returns : tie.Need-returns-in-Accepted
 unfolding last_line_in
-returns c = rw (← c.before.before.end.ensures, c.enum_told.given.1)
+returns c = rw (← c.before.end.ensures, c.in-Accepted.is)
 
-returns-2 : tie.Need-returns-2
+returns-2 : tie.Need-returns-in-Refused
 unfolding last_line_in
-returns-2 c = rw (← c.before.before.before.end.ensures, c.before.number.given.1)
+returns-2 c = rw (← c.before.end.ensures, c.in-Refused.is)
 
-pub last-line-spec : {M : Type 1} → statement M
-last-line-spec = tie.close (tie.spec end-requires enum_told enum-known-number returns returns-2)
+pub last_line_spec : {M : Type 1} → statement M
+last_line_spec = tie.close (tie.spec end-requires enum_told enum-known-number returns returns-2)

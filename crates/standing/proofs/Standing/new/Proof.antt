@@ -16,7 +16,7 @@ new-requires-2 c κs = search rules
 
 returns : tie.Need-returns
 unfolding start
-returns c = (rw (c.before.new.ensures.0, c.new2.ensures), record { kept = record { book = c.before.new.ensures.1; counts = rw c.new2.ensures (longer 0 _ zero-le zero none) }; few = omega arith })
+returns c = (rw (c.before.new.ensures.0, c.new-2.ensures), record { kept = record { book = c.before.new.ensures.1; counts = rw c.new-2.ensures (longer 0 _ zero-le zero none) }; few = omega arith })
 
 pub new_spec : {M : Type 1} → statement M
 new_spec = tie.close (tie.spec new-requires new-requires-2 returns)
