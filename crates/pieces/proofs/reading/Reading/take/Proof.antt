@@ -15,63 +15,63 @@ use Rattle.pieces.proofs.reading.Reading.take.Tie as tie
 abbrev whole : List ℕ → ℕ
 whole s = length s / block_size * block_size
 
-take-parts-requires : tie.Need-take-parts-requires
+take-parts-requires : tie.Need-take_parts-requires
 take-parts-requires c κs = search rules
 
-same_length : tie.Need-same-length
+same_length : tie.Need-shape_of-out-then-self-ne0
 same_length c = search rules
 
-returns : tie.Need-returns
+returns : tie.Need-returns-then-self-ne0
 returns c = search rules
 
-mul-whole : tie.Need-overflow-mul-whole
+mul-whole : tie.Need-overflow_mul-whole
 mul-whole c = search rules
 
-slice-aggregate-run-blocks : tie.Need-slice-aggregate-run-blocks
+slice-aggregate-run-blocks : tie.Need-slice_bounds-run_blocks-end
 slice-aggregate-run-blocks c = sym (length-take-le (whole c.before.before.before.before.before.before.args.bytes.now) c.before.before.before.before.before.before.args.bytes.now (omega arith))
 
-run-blocks-requires : tie.Need-run-blocks-requires
+run-blocks-requires : tie.Need-run_blocks-run-requires
 run-blocks-requires c κs =
     let start = c.before.before.before.before.before.before.before in
     let few = start.requires.1 in
     (start.requires.0.standing, length-take-le (whole start.args.bytes.now) start.args.bytes.now (omega arith), omega (arith, few), start.requires.2)
 
-same-length-2 : tie.Need-same-length-2
+same-length-2 : tie.Need-shape_of-out-then-whole-bytes
 same-length-2 c = search rules
 
-returns-2 : tie.Need-returns-2
+returns-2 : tie.Need-returns-then-whole-bytes
 returns-2 c =
     let start = c.before.before.before.before.before.before.before.before.before.before.before.before in
-    finished (after_blocks {count = length start.args.bytes.now / block_size} start.requires.0 c.before.before.before.before.before.before.before.before.if1.false refl (omega arith) c.before.before.before.before.run-blocks.ensures) (omega (arith, c.if2.true))
+    finished (after_blocks {count = length start.args.bytes.now / block_size} start.requires.0 c.before.before.before.before.before.before.before.before.if-self-ne0.false refl (omega arith) c.before.before.before.before.run_blocks-run.ensures) (omega (arith, c.if-whole-bytes.true))
 
-sub-chunk : tie.Need-overflow-sub-chunk
+sub-chunk : tie.Need-slice_bounds-chunk-count
 sub-chunk c = search rules
 
-part-chunk-start : tie.Need-slice-bounds-chunk-start
+part-chunk-start : tie.Need-slice_bounds-chunk-start
 part-chunk-start c = search rules
 
-part-chunk-end : tie.Need-slice-bounds-chunk-end
+part-chunk-end : tie.Need-slice_bounds-chunk-end
 part-chunk-end c = search rules
 
 chunk-requires : tie.Need-chunk-requires
 chunk-requires c κs =
     let start = c.before.before.before.before.before.before.before.before.before.before.before.before.before.before in
     let s = start.args.bytes.now in
-    let t = after_blocks {count = length start.args.bytes.now / block_size} start.requires.0 c.before.before.before.before.before.before.before.before.before.before.if1.false refl (omega arith) c.before.before.before.before.before.before.run-blocks.ensures in
+    let t = after_blocks {count = length start.args.bytes.now / block_size} start.requires.0 c.before.before.before.before.before.before.before.before.before.before.if-self-ne0.false refl (omega arith) c.before.before.before.before.before.before.run_blocks-run.ensures in
     let size = length-take (length s - whole s) (drop (whole s) s) in
     let rest = length-drop (whole s) s in
-    let left : whole s ≡ length s → ⊥ = c.before.before.if2.false in
+    let left : whole s ≡ length s → ⊥ = c.before.before.if-whole-bytes.false in
     (record { ready = t.takes.ready; some = omega (arith, size, rest, left); fits = omega (arith, size, rest) }, has_room start.requires.0 start.requires.1 t start.requires.2)
 
-same-length-3 : tie.Need-same-length-3
+same-length-3 : tie.Need-shape_of-out
 same-length-3 c = search rules
 
-returns-3 : tie.Need-returns-3
+returns-3 : tie.Need-returns
 returns-3 c =
     let start = c.before.before.before.before.before.before.before.before.before.before.before.before.before.before.before.before.before in
     let s = start.args.bytes.now in
-    let t = after_blocks {count = length start.args.bytes.now / block_size} start.requires.0 c.before.before.before.before.before.before.before.before.before.before.before.before.before.if1.false refl (omega arith) c.before.before.before.before.before.before.before.before.before.run-blocks.ensures in
-    let left : whole s ≡ length s → ⊥ = c.before.before.before.before.before.if2.false in
+    let t = after_blocks {count = length start.args.bytes.now / block_size} start.requires.0 c.before.before.before.before.before.before.before.before.before.before.before.before.before.if-self-ne0.false refl (omega arith) c.before.before.before.before.before.before.before.before.before.run_blocks-run.ensures in
+    let left : whole s ≡ length s → ⊥ = c.before.before.before.before.before.if-whole-bytes.false in
     finished (more start.requires.0 start.requires.1 t (omega (arith, left)) (omega arith) refl c.before.before.chunk.ensures) (omega arith)
 
 pub take_spec : {M : Type 1} → statement M
