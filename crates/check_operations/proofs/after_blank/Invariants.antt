@@ -1,5 +1,5 @@
 -- The state is one that the plant second takes.
-use Rattle.std.proofs.Common.{◌≤◌, ◌-◌}
+use Rattle.std.proofs.Common.{◌≤◌}
 use Rattle.plant.specs.State.{Ready}
 use Rattle.check_operations.proofs.after_blank.Given as goal
 
