@@ -24,3 +24,42 @@ pub fn read_full<R: Read>(input: &mut R, bytes: &mut [u8]) -> usize
     }
     done
 }
+
+#[cfg(test)]
+mod tests {
+    use super::*;
+    use std::io;
+    use std::io::ErrorKind;
+    use std::test::Fail;
+
+    #[derive(Drop)]
+    struct Broken;
+
+    impl Read for Broken {
+        fn read(&mut self, _buf: &mut [u8]) -> io::Result<usize> {
+            Err(io::Error::from(ErrorKind::Other))
+        }
+    }
+
+    #[test]
+    fn joins_pieces(rt: HostRuntime) -> Result<(), Fail> {
+        let mut input = b"abc".as_slice().chain(b"defg".as_slice());
+        let mut bytes = [b'-'; 5];
+        assert_eq!(rt; read_full(&mut input, &mut bytes), 5);
+        assert_eq!(rt; bytes, *b"abcde");
+        assert_eq!(rt; read_full(&mut input, &mut bytes), 2);
+        assert_eq!(rt; bytes, *b"fgcde");
+        assert_eq!(rt; read_full(&mut input, &mut bytes), 0);
+        Ok(())
+    }
+
+    #[test]
+    fn ends_where_a_read_fails(rt: HostRuntime) -> Result<(), Fail> {
+        let mut input = b"abc".as_slice().chain(Broken);
+        let mut bytes = [b'-'; 5];
+        assert_eq!(rt; read_full(&mut input, &mut bytes), 3);
+        assert_eq!(rt; bytes, *b"abc--");
+        assert_eq!(rt; read_full(&mut input, &mut bytes), 0);
+        Ok(())
+    }
+}

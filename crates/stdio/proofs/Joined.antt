@@ -16,9 +16,6 @@ none ready = record { bytes = []; after = record { standing = refl; part = refl;
 pub taken : {m used : ℕ} (r : Reading) (s : List ℕ) {b e : List ℕ} {t : Taken} → Takes m b e used t (bytes_in r.standing (part_of r) s) → After r s t.reading
 taken r s f = record { standing = f.standing; part = f.part; ready = f.ready }
 
-pub some : (r : Reading) (s : List ℕ) {t : Reading} → After r s t → AfterSome r t
-some r s f = record { bytes = s; after = f }
-
 pub both : {r t u : Reading} → AfterSome r t → AfterSome t u → AfterSome r u
 both {r} {t} {u} f g =
     let all : bytes_in r.standing (part_of r) (f.bytes ++ g.bytes) ≡ onward (bytes_in r.standing (part_of r) f.bytes).text (bytes_in t.standing (part_of t) g.bytes) =
