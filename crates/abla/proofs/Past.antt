@@ -14,7 +14,7 @@ use Rattle.abla.specs.declared.load.LoadSecond.{LoadSecond}
 use Rattle.abla.specs.declared.stage.Stage.{Stage}
 use Rattle.abla.specs.declared.stage.Stage.TheVariants.{Blank, Holding, Called, Returning}
 use Rattle.abla.specs.declared.AblaAnswer.TheVariants.{Given}
-use Rattle.abla.specs.Calls.{History, flagged, is_quick, flagged_last, Call, no_call, begun, longer, latest, since, quarter_hour, hour, in_first, in_return}
+use Rattle.abla.specs.Calls.{History, flagged, flagged_last, Call, no_call, begun, longer, latest, since, quarter_hour, hour, in_first, in_return}
 use Rattle.abla.proofs.Runs.{goes_on, begins, none_since, stays, one_since, some}
 use Rattle.abla.specs.Band.{setpoint_of, called, lower_of, lower_before, ramp_of, returning, holds, stage_limits, limits_at, band_at}
 use Rattle.abla.specs.Band as bands

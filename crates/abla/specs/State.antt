@@ -1,5 +1,5 @@
 -- What the state holds after a past, and what a second makes of a state. The stage is that of the newest second; its times are relative to it.
-use Rattle.std.specs.Prelude.{◌≡◌, ℕ, zero, suc, ◌+◌, ◌*◌, ◌≤◌, min, Bool, true, false, not, cond, ◌&&◌, List, [], ◌∷◌, leb, ltb, ℤ, pos, ◌≤ℤ◌}
+use Rattle.std.specs.Prelude.{◌≡◌, ℕ, zero, suc, ◌+◌, ◌*◌, min, Bool, true, false, not, cond, ◌&&◌, List, [], ◌∷◌, leb, ltb, ℤ, pos, ◌≤ℤ◌}
 use Rattle.numbers.specs.Bounds.{Within}
 use Rattle.numbers.specs.Rules.{Rule, first}
 use Rattle.power.specs.declared.kilowatts.Kw.{Kw}

@@ -1,6 +1,6 @@
 -- Figures of a book's blocks, worked out by hand from 01, "Blocks and text" and "When a book is turned down", and from 02, W1: a definition
 -- that is changed together with the code does not give them.
-use Rattle.std.specs.Prelude.{◌≡◌, ℕ, List, [], ◌∷◌, ◌++◌, length, get_or, take, drop, replicate}
+use Rattle.std.specs.Prelude.{◌≡◌, ℕ, List, [], ◌∷◌, ◌++◌, length, take, drop, replicate}
 use Rattle.codec.specs.Little.{le4}
 use Rattle.block.specs.Bytes.{zeros}
 use Rattle.block.specs.Check.{check_of}

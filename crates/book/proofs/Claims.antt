@@ -5,7 +5,7 @@ use mathlib.Core.Bool.{Bool, true, false, not, cond}
 use Prim.Native.Nat.{ℕ, zero, suc, ◌%◌, ◌≤◌}
 use native.Mathlib.Numerals.{add-one}
 use native.Mathlib.Omega.{arith}
-use borrow.Author.Tests.{eq-eqb, ne_eqb, eqb-true}
+use borrow.Author.Tests.{eqb-true}
 use lib.Dec.{eqb}
 use lib.IntN.{ℤ, ◌+ℤ◌, +ℤ_assoc, +ℤ_comm}
 use lib.ListN.{length, length-map}
@@ -13,16 +13,14 @@ use Rattle.sheet.specs.declared.Sheet.{Sheet}
 use Rattle.sheet.specs.Sheet.{InRange}
 use Rattle.record.specs.Record.{most_seconds}
 use Rattle.mfrr.specs.Signal.{quarter_hour}
-use Rattle.plant.specs.State as plant-state
 use Rattle.plant.proofs.Past as plant
-use Rattle.plant.proofs.Claims as plant-claims
 use Rattle.book.specs.declared.Book.{Book}
-use Rattle.book.specs.Seconds.{BookSecond, History, Closed, unit_bytes, a_bytes, b_bytes, past_of, closed_of}
+use Rattle.book.specs.Seconds.{BookSecond, History, Closed, unit_bytes, past_of, closed_of}
 use Rattle.book.specs.Refusals.{number_at, AllClosed, Accepted, grown_by, grown}
 use Rattle.book.specs.Rows.{unit_row_at, pool_row_at, a_row_at, b_row_at, answer_at}
-use Rattle.book.specs.Sums.{sum_a, sum_b, sum_open, sum_due, sums_of, no_sums}
+use Rattle.book.specs.Sums.{sum_a, sum_b, sum_open, sum_due, sums_of}
 use Rattle.book.specs.State.{fresh, state_of, sums_with, SumsReady}
-use Rattle.book.specs.HandOver.{hand_over_number, handed_over, hand_over_by, hand_over_in, closed_by, closed_handed, past_by, past_handed}
+use Rattle.book.specs.HandOver.{hand_over_number, hand_over_by, hand_over_in, closed_by, closed_handed, past_by, past_handed}
 use Rattle.book.specs.Run.{book_after, accepted}
 use Rattle.book.specs.Claims.{AtSecond, EachSecond, Balanced, ListHolds, Claims, ChainHolds, BookClaims}
 use Rattle.book.proofs.Sizes.{sums_none, sums_more, sums_fit}

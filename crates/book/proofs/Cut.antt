@@ -4,14 +4,13 @@ use mathlib.Core.List.{List, [], ◌∷◌, ◌++◌, map, append_assoc}
 use Prim.Native.Nat.{ℕ, ◌%◌, ◌*◌}
 use native.Mathlib.Omega.{arith}
 use borrow.Author.Tests.{eq-eqb}
-use lib.IntN.{ℤ, pos, ◌+ℤ◌, ◌-ℤ◌, +ℤ_assoc, +ℤ_idr}
+use lib.IntN.{ℤ, pos, ◌+ℤ◌, +ℤ_assoc, +ℤ_idr}
 use lib.ListN.{length, take, drop, length-map, length-append}
 use lib.Seq.{take_at, drop_at, take_all}
 use Rattle.sheet.specs.declared.Sheet.{Sheet}
 use Rattle.sheet.specs.Sheet.{InRange}
 use Rattle.record.specs.declared.Record.{Record}
 use Rattle.record.specs.Record.{size, book_size, record_of, moved_back}
-use Rattle.row.specs.declared.Row.{Row}
 use Rattle.mfrr.specs.Signal.{quarter_hour}
 use Rattle.plant.specs.Seconds as plant
 use Rattle.plant.specs.Refusals as plant-refusals
@@ -20,11 +19,11 @@ use Rattle.plant.specs.Cut as plant-cut
 use Rattle.plant.proofs.MovedBytes.{record_moved, length_moved}
 use Rattle.plant.proofs.Claims as plant-claims
 use Rattle.plant.proofs.Claims.{record_number_lem}
-use Rattle.book.specs.Seconds.{BookSecond, History, Closed, unit_bytes, a_bytes, b_bytes, past_of, closed_of, difference, due_of}
-use Rattle.book.specs.Refusals.{form_number, unit_number, a_number, b_number, number_at, AllClosed, Accepted}
-use Rattle.book.specs.Rows.{unit_point, Pool, pool_a, pool_b, added_to, values_of, unit_row_at, pool_row_at, a_row_at, b_row_at}
-use Rattle.book.specs.Sums.{actuals_of, open_of, sum_over, sum_a, sum_b, sum_open, sum_due}
-use Rattle.book.specs.Cut.{bytes_back, earlier, BookRow, rows_of, cut_off, Cut}
+use Rattle.book.specs.Seconds.{BookSecond, History, unit_bytes, a_bytes, b_bytes, past_of, closed_of, difference, due_of}
+use Rattle.book.specs.Refusals.{form_number, number_at, AllClosed, Accepted}
+use Rattle.book.specs.Rows.{unit_point, Pool, pool_a, pool_b, values_of, unit_row_at, pool_row_at, a_row_at, b_row_at}
+use Rattle.book.specs.Sums.{actuals_of, open_of, sum_over}
+use Rattle.book.specs.Cut.{bytes_back, earlier, rows_of, cut_off, Cut}
 use Rattle.book.proofs.Past.{Cleared, cleared, unit_accepted, a_accepted, b_accepted}
 use Rattle.book.proofs.Form.{whole, unit_length, a_length, b_length}
 

@@ -1,7 +1,7 @@
 -- A handover, by the length of the closing book. Assumes nothing.
 use mathlib.Core.Path.{◌≡◌, refl, sym, ap, ◌∙◌, subst}
 use mathlib.Core.Bool.{Bool, true, false, not}
-use mathlib.Core.List.{List, [], ◌∷◌}
+use mathlib.Core.List.{[], ◌∷◌}
 use Prim.Native.Nat.{ℕ, ◌%◌}
 use borrow.Author.Tests.{eq-eqb, ne_eqb}
 use lib.Dec.{eqb}
@@ -14,7 +14,7 @@ use Rattle.plant.specs.State as plant
 use Rattle.plant.specs.Seconds as plant-seconds
 use Rattle.book.specs.declared.Book.{Book}
 use Rattle.book.specs.declared.OpenAnswer.TheVariants.{Opened, Refused}
-use Rattle.book.specs.Seconds.{BookSecond, History, Closed, unit_bytes, a_bytes, b_bytes, past_of, closed_of}
+use Rattle.book.specs.Seconds.{History, Closed, unit_bytes, a_bytes, b_bytes, past_of, closed_of}
 use Rattle.book.specs.Sums.{sums_of, no_sums}
 use Rattle.book.specs.State.{state_of, SumsReady, Ready}
 use Rattle.book.specs.HandOver.{hand_over_number, handed_over, hand_over_by, hand_over_in, AtHandOver, Opening, HandedOver}

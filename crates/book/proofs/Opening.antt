@@ -3,11 +3,10 @@ use mathlib.Core.Path.{◌≡◌, refl, sym, ap, ◌∙◌}
 use mathlib.Core.Bool.{Bool, true, false, cond}
 use Prim.Native.Nat.{ℕ, zero, suc}
 use Rattle.sheet.specs.declared.Sheet.{Sheet}
-use Rattle.sheet.specs.Sheet.{default_sheet, percent_out, range_out, fcr_reaction_out, afrr_reaction_out, sheet_number, InRange}
+use Rattle.sheet.specs.Sheet.{default_sheet, percent_out, range_out, fcr_reaction_out, afrr_reaction_out, sheet_number}
 use Rattle.sheet.proofs.Ranges.{in_range, ranged}
 use Rattle.book.specs.declared.Book.{Book}
 use Rattle.book.specs.declared.OpenAnswer.TheVariants.{Opened, Refused}
-use Rattle.book.specs.HandOver.{open_number_in}
 use Rattle.book.specs.State.{fresh, Ready}
 use Rattle.book.specs.Open.{open_by, open_in, OpenedUnder}
 

@@ -1,6 +1,6 @@
 -- W5's cases, age by age, are what the formula gives at 15 seconds. Assumes nothing.
-use mathlib.Core.Path.{◌≡◌, refl, sym, ◌∙◌}
-use mathlib.Core.Bool.{Bool, true, false, cond, ◌&&◌}
+use mathlib.Core.Path.{◌≡◌, refl, ◌∙◌}
+use mathlib.Core.Bool.{Bool, true, false, ◌&&◌}
 use mathlib.Core.List.{List, [], ◌∷◌}
 use Prim.Native.Nat.{ℕ, ◌*◌, ◌/◌, ◌≤◌}
 use native.Mathlib.Omega.{arith}
@@ -8,10 +8,10 @@ use lib.Dec.{leb, ltb, eqb, lit<}
 use borrow.Author.Tests.{leb-true, leb-false, eqb-true, ltb-true, ne_eqb}
 use Rattle.numbers.proofs.Rules.{both_true}
 use Rattle.sheet.specs.declared.Sheet.{Sheet}
-use Rattle.sheet.specs.Sheet.{first_figures, whole_time}
+use Rattle.sheet.specs.Sheet.{first_figures}
 use Rattle.fcr.specs.Factor.{figure61, figures_time, figures_per_kw, case_of, weight_factor}
 use Rattle.fcr.specs.State.{most_age, kept, time_parts}
-use Rattle.fcr.proofs.Each.{every, each}
+use Rattle.fcr.proofs.Each.{each}
 use Rattle.fcr.proofs.Parts.{parts_over}
 
 -- ---- past the last age

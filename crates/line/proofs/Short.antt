@@ -20,7 +20,7 @@ use Rattle.row.specs.Side.{side_of, kw_below, kw_above}
 use Rattle.row.specs.Fits.{Kind32, Row32}
 use Rattle.row.proofs.Claims as row
 use Rattle.row.proofs.Sides.{excess}
-use Rattle.line.specs.Text.{ascii, digits}
+use Rattle.line.specs.Text.{ascii}
 use Rattle.line.specs.Widths.{row_room, name_width, side_width, outside_width, side_count_width, counts_width}
 use Rattle.line.specs.Short.{outside_text, side_text, short_text, side_count_text, kind_counts_text, counts_text}
 use Rattle.line.specs.Claims.{Side64, KindSides64, Counts64, Silent}

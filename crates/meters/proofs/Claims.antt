@@ -1,6 +1,4 @@
 -- The claims hold. Assumes nothing.
-use mathlib.Core.List.{List}
-use Prim.Native.Nat.{ℕ}
 use lib.ListN.{take}
 use lib.Ieee.{binary32, of_bits}
 use lib.Ieee.Fits.{sub-fits}

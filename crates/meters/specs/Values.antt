@@ -1,6 +1,6 @@
 -- Values at the edges of what is usable, of rounding and of the answer, so that a fault in definition and code alike is refused. Numbers are
 -- written by their bits. The proof is `values` of proofs/Values.antt.
-use Rattle.std.specs.Prelude.{ℕ, ◌≡◌, Bool, true, false, List, [], ◌∷◌, map, ℤ, pos, neg_ℤ, Float}
+use Rattle.std.specs.Prelude.{ℕ, ◌≡◌, Bool, true, false, [], ◌∷◌, map, ℤ, pos, neg_ℤ, Float}
 use Rattle.std.specs.Float.{binary32}
 use Rattle.std.specs.Float.Ieee.{of_bits}
 use Rattle.meters.specs.declared.Reading.TheVariants.{Frequency, Deviation, Failed}

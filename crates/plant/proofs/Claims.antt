@@ -13,7 +13,7 @@ use mir.Val.{SFits, hbits}
 use mir.Facts.{Fits-le, Fits-lit}
 use Rattle.numbers.proofs.Fit.{within_le, within_lit, fits_by}
 use Rattle.power.specs.declared.limits.Limits.{Limits}
-use Rattle.power.specs.Units.{Divides, most_reserve}
+use Rattle.power.specs.Units.{most_reserve}
 use Rattle.power.specs.Inward.{published_of}
 use Rattle.power.proofs.Inside.{upper_within, lower_within}
 use Rattle.sheet.specs.declared.Sheet.{Sheet}

@@ -1,14 +1,13 @@
 -- A list of accepted seconds cut once gives the second book the same timeline. Assumes nothing.
 use mathlib.Core.Path.{◌≡◌, refl, sym, ap, ◌∙◌}
 use mathlib.Core.Bool.{Bool, true, false, cond, ◌&&◌, ◌||◌}
-use mathlib.Core.List.{List, [], ◌∷◌, ◌++◌, map}
-use Prim.Native.Nat.{ℕ, zero, suc, ◌+◌, ◌-◌, ◌%◌, ◌≤◌, ◌<◌}
+use mathlib.Core.List.{[], ◌∷◌, ◌++◌, map}
+use Prim.Native.Nat.{ℕ, zero, suc, ◌+◌, ◌-◌, ◌%◌, ◌≤◌}
 use native.Mathlib.Omega.{arith}
 use borrow.Author.Tests.{leb-false, lt-leb, ne_eqb}
 use lib.Dec.{eqb, ltb}
-use lib.IntN.{ℤ}
 use lib.ListN.{length, length-map, length-append}
-use Rattle.numbers.specs.Rules.{first, differ}
+use Rattle.numbers.specs.Rules.{differ}
 use Rattle.numbers.proofs.Rules.{none, neither}
 use Rattle.power.specs.Units.{kw}
 use Rattle.sheet.specs.declared.Sheet.{Sheet}
@@ -21,9 +20,8 @@ use Rattle.mfrr.specs.Signal.{quarter_hour, setpoint_at}
 use Rattle.mfrr.specs.Refusals.{rules_at, refusal}
 use Rattle.mfrr.specs.State.{second_of}
 use Rattle.mfrr.proofs.Rules as mfrr-rules
-use Rattle.plant.specs.declared.Setpoints.{Setpoints}
 use Rattle.plant.specs.declared.Kinds.{Kinds}
-use Rattle.plant.specs.Seconds.{History, Closed, with_end, moved_on, moved_back, timeline, on_timeline, status_of, last_status_of, fcr_setpoint, afrr_second, mfrr_second, mfrr_past, setpoints_with, setpoints_at}
+use Rattle.plant.specs.Seconds.{History, with_end, moved_on, moved_back, timeline, on_timeline, status_of, last_status_of, fcr_setpoint, afrr_second, mfrr_second, setpoints_with, setpoints_at}
 use Rattle.plant.specs.Refusals.{nonzero, held_out, power_out, call_filled, call_out, status_moved, record_rules, record_number, off_number, record_number_at, AllClosed, Accepted}
 use Rattle.plant.specs.Rows.{kinds_with, kinds_at, row_by, row_at}
 use Rattle.plant.specs.Cut.{Cut}

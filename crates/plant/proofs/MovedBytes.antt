@@ -1,7 +1,7 @@
 -- The record of a plant second's bytes with the delivery end moved back. Assumes nothing.
 use mathlib.Core.Path.{◌≡◌, refl, sym, ap, ◌∙◌}
 use mathlib.Core.Bool.{Bool, true, false, cond}
-use mathlib.Core.List.{List, [], ◌∷◌, ◌++◌}
+use mathlib.Core.List.{List, ◌++◌}
 use Prim.Native.Nat.{ℕ, ◌+◌, ◌-◌, ◌*◌, ◌<◌, ◌≤◌}
 use native.Mathlib.Omega.{arith}
 use lib.Dec.{eqb}
@@ -11,7 +11,6 @@ use Rattle.codec.specs.Little.{u16_at, u32_at, le4, twos_complement}
 use Rattle.codec.specs.Put.{over}
 use Rattle.codec.proofs.Little.{le4_value}
 use Rattle.power.specs.Units.{kw}
-use Rattle.record.specs.declared.Record.{Record}
 use Rattle.record.specs.Record as bytes
 use Rattle.record.specs.Record.{size, end_place, call_place, record_of}
 use Rattle.plant.specs.Seconds.{with_end, moved_back}

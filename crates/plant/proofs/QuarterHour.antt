@@ -6,7 +6,7 @@ use Prim.Native.Nat.{ℕ, zero, suc, ◌+◌, ◌*◌, ◌/◌, ◌%◌}
 use native.Mathlib.Omega.{arith}
 use borrow.Author.Tests.{eq-eqb}
 use lib.Dec.{T, eqb}
-use lib.IntN.{ℤ, pos}
+use lib.IntN.{pos}
 use lib.ListN.{length}
 use Rattle.numbers.specs.Rules.{Rule, refuse, first, differ}
 use Rattle.numbers.proofs.Rules.{none, neither}
@@ -27,7 +27,7 @@ use Rattle.plant.specs.Refusals.{held_out, deviation_out, power_out, setpoint_ou
 use Rattle.plant.specs.Rows.{answer_by, answer_at, row_at}
 use Rattle.plant.specs.Run.{PlantSecond, accepted}
 use Rattle.plant.specs.Values.{in_status}
-use Rattle.plant.specs.Claims.{QuarterHour, Stuck, call_while_off}
+use Rattle.plant.specs.Claims.{QuarterHour, call_while_off}
 use Rattle.plant.proofs.Past.{call_number, number_parts}
 
 -- ---- 26 and the other rules

@@ -1,6 +1,6 @@
 -- A list of accepted seconds cut once (02, W7): `early` and then `late`, both newest first. In the second book the delivery ends are moved back by
 -- the first one's length. It is claimed in specs/Claims.antt.
-use Rattle.std.specs.Prelude.{◌≡◌, List, [], ◌∷◌, ◌++◌, map, ℤ, length}
+use Rattle.std.specs.Prelude.{◌≡◌, [], ◌∷◌, ◌++◌, map, ℤ, length}
 use Rattle.sheet.specs.declared.Sheet.{Sheet}
 use Rattle.record.specs.declared.Record.{Record}
 use Rattle.plant.specs.Seconds.{History, moved_back}

@@ -1,7 +1,6 @@
 -- A book with no closed one before it is 01's (02, W7: "Opening blank stays possible"): what looks at the past sees the book's own seconds as they
 -- are. The other definitions of the plant see no past but through these. The proof is `fresh_book` of proofs/Fresh.antt.
-use Rattle.std.specs.Prelude.{◌≡◌, List, [], ◌∷◌, map, length}
-use Rattle.numbers.specs.Rules.{Rule}
+use Rattle.std.specs.Prelude.{◌≡◌, [], ◌∷◌, map, length}
 use Rattle.power.specs.Units.{kw}
 use Rattle.sheet.specs.declared.Sheet.{Sheet}
 use Rattle.record.specs.declared.Record.{Record}

@@ -5,10 +5,8 @@ use mathlib.Core.Logic.{◌↔◌}
 use Prim.Native.Nat.{ℕ}
 use native.Mathlib.Omega.{arith}
 use lib.Dec.{T}
-use lib.IntN.{ℤ}
 use lib.Signed.{lt_z, lt_z_yes, lt_z_no, clash_ℤ}
 use Rattle.row.specs.declared.KindRow.{KindRow}
-use Rattle.row.specs.declared.side.BandSide.{BandSide}
 use Rattle.row.specs.declared.side.BandSide.TheVariants.{Within, Below, Above}
 use Rattle.row.specs.Row.{InBand}
 use Rattle.row.specs.Side.{side_of}

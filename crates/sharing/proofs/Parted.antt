@@ -1,5 +1,5 @@
 -- What the shares are made of, for any number of kinds. Assumes nothing.
-use Prim.Native.Nat.{ℕ, suc, ◌+◌, ◌-◌, ◌*◌, ◌/◌, ◌%◌, ◌≤◌, ◌<◌}
+use Prim.Native.Nat.{ℕ, suc, ◌+◌, ◌*◌, ◌<◌}
 use mathlib.Core.Path.{◌≡◌, refl, ap, sym, ◌∙◌}
 use mathlib.Core.Logic.{⊎_elim}
 use mathlib.Core.Bool.{Bool, true, false, cond}
@@ -12,7 +12,7 @@ use borrow.Author.Tests.{eq-eqb, ne_eqb}
 use Rattle.numbers.proofs.Test.{or_false}
 use Rattle.sharing.specs.declared.shares.Weighed.{Weighed}
 use Rattle.sharing.specs.declared.shares.Part.{Part}
-use Rattle.sharing.specs.Shares.{one, sum_of, some_on, weighed_on, tolerance_of, tolerances, total, floor_of, floors, remainder_of, remainders, missing, extras, plus, none, extras_by, to_first, shares, parts_with, parts_by, unrounded, parts, whole_of, wholes, floors_in, remainders_in, extras_in}
+use Rattle.sharing.specs.Shares.{one, sum_of, some_on, weighed_on, tolerance_of, tolerances, total, floor_of, floors, remainder_of, remainders, missing, plus, none, extras_by, to_first, shares, parts_with, parts_by, unrounded, parts, whole_of, wholes, floors_in, remainders_in, extras_in}
 use Rattle.sharing.specs.Claims.{before, OffNone, AllDivided, OffUnrounded, Parted}
 use Rattle.sharing.proofs.Counts.{flag, length_extras, floors_le, given}
 use Rattle.sharing.proofs.Rank.{ranked}

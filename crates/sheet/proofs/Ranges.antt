@@ -3,17 +3,15 @@ use mathlib.Core.Path.{◌≡◌, refl}
 use mathlib.Core.Bool.{Bool, true, false, cond, ◌||◌}
 use Prim.Native.Nat.{ℕ}
 use native.Mathlib.Omega.{arith}
-use lib.Dec.{ltb, lit<}
+use lib.Dec.{ltb}
 use lib.IntN.{ℤ, pos}
 use lib.Signed.{lt_z, ◌≤ℤ◌}
 use borrow.Author.Tests.{ltb-false, le-ltb}
 use Rattle.numbers.specs.Bounds.{Within, outside}
-use Rattle.numbers.specs.Rules.{Rule, refuse, first}
-use Rattle.numbers.proofs.Fit.{within_lit}
 use Rattle.numbers.proofs.Parts.{reads, shows, between, one_nat}
 use Rattle.numbers.proofs.Test.{or_false, or_no, flags}
 use Rattle.sheet.specs.declared.Sheet.{Sheet}
-use Rattle.sheet.specs.Sheet.{default_sheet, first_figures, most_floor, most_least, least_fcr_reaction, most_fcr_reaction, most_afrr_reaction, percent_out, range_out, fcr_reaction_out, afrr_reaction_out, sheet_rules, sheet_number, InRange}
+use Rattle.sheet.specs.Sheet.{default_sheet, first_figures, most_floor, most_least, least_fcr_reaction, most_fcr_reaction, most_afrr_reaction, percent_out, range_out, fcr_reaction_out, afrr_reaction_out, sheet_number, InRange}
 
 -- four rules of which none applies
 abbrev four : Bool → Bool → Bool → Bool → ℕ

@@ -1,5 +1,5 @@
 -- "The 5 % floors, the 5,000 kW, the reaction times and the factor 1.2 become a sheet handed over with a fresh book" (02, W9).
-use Rattle.std.specs.Prelude.{ℕ, ◌+◌, ◌-◌, ◌*◌, ◌≤◌, Bool, ◌||◌, List, [], ◌∷◌, ltb, ℤ, pos, ◌≤ℤ◌}
+use Rattle.std.specs.Prelude.{ℕ, ◌+◌, ◌-◌, ◌*◌, ◌≤◌, Bool, ◌||◌, List, [], ◌∷◌, ltb, pos, ◌≤ℤ◌}
 use Rattle.numbers.specs.Bounds.{Within, outside}
 use Rattle.numbers.specs.Rules.{Rule, refuse, first}
 use Rattle.power.specs.Units.{kw}

@@ -1,5 +1,5 @@
 -- Values at the edges of the ranges. The proof is `values` of proofs/Values.antt.
-use Rattle.std.specs.Prelude.{ℕ, ◌≡◌, ℤ, pos, neg_ℤ}
+use Rattle.std.specs.Prelude.{ℕ, ◌≡◌, ℤ, pos}
 use Rattle.power.specs.Units.{kw, most_per_kw}
 use Rattle.sheet.specs.declared.Sheet.{Sheet}
 use Rattle.sheet.specs.Sheet.{default_sheet, sheet_number, per_kw}

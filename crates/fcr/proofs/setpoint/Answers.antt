@@ -1,12 +1,9 @@
 -- `fcr::setpoint` meets its contract: the code's tests are those of the definition. Assumes nothing.
 use mathlib.Core.Path.{◌≡◌, sym, ◌∙◌, subst}
-use mathlib.Core.Logic.{⊎_elim}
 use mathlib.Core.Bool.{true, false, ◌&&◌}
 use lib.IntN.{ℤ, pos, neg_ℤ}
 use lib.Signed.{le_z}
-use borrow.Author.Rules.{rules}
 use Rattle.numbers.specs.Bounds.{Within}
-use Rattle.numbers.proofs.Fit.{fit}
 use Rattle.numbers.proofs.Test.{tests}
 use Rattle.power.specs.Units.{most_reserve}
 use Rattle.fcr.specs.Setpoint.{dead_band, full_activation, setpoint_of}

@@ -1,13 +1,13 @@
 -- `meters::choose` meets its contract, a law of `said_with` at each return. Assumes nothing.
 use mathlib.Core.Path.{◌≡◌, sym, ap, ◌∙◌}
-use mathlib.Core.Bool.{true, false}
+use mathlib.Core.Bool.{false}
 use mathlib.Core.List.{List}
 use Prim.Native.Nat.{ℕ}
 use borrow.Author.Rules.{rules}
 use lib.ListN.{take}
 use Rattle.meters.specs.declared.Meter.{Meter}
 use Rattle.meters.specs.Binary32.{in_mhz}
-use Rattle.meters.specs.Meters.{usable, counting, count_out, deviation, deviation_of}
+use Rattle.meters.specs.Meters.{usable, count_out, deviation, deviation_of}
 use Rattle.meters.proofs.Choice.{usable_fair, count_in_lem, count_out_lem, none_usable, one_counts}
 use Rattle.meters.proofs.choose.Statement.{statement}
 use Rattle.meters.proofs.choose.Tie as tie

@@ -1,5 +1,5 @@
 -- `block::block_writer::write_block` meets its contract: the rules that gave no number say what the buffer and the seconds are. Assumes nothing.
-use Rattle.std.proofs.Common.{◌≡◌, sym, ◌∙◌, arith}
+use Rattle.std.proofs.Common.{sym, ◌∙◌, arith}
 use Rattle.block.proofs.Writing.{fit_block}
 use Rattle.block.proofs.block_writer.write_block.Goals as goal
 

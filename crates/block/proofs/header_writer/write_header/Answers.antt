@@ -1,5 +1,5 @@
 -- `block::header_writer::write_header` meets its contract: the rules that gave no number say how long the buffer is. Assumes nothing.
-use Rattle.std.proofs.Common.{◌≡◌, sym, ◌∙◌}
+use Rattle.std.proofs.Common.{sym, ◌∙◌}
 use Rattle.block.proofs.Writing.{fit_header}
 use Rattle.block.proofs.header_writer.write_header.Goals as goal
 

@@ -1,8 +1,4 @@
 -- `book::Book::new` meets its contract. Assumes nothing.
-use mathlib.Core.Path.{◌≡◌}
-use Rattle.sheet.specs.declared.Sheet.{Sheet}
-use Rattle.plant.specs.declared.PlantState.{PlantState}
-use Rattle.plant.specs.State as plant
 use Rattle.book.specs.State.{fresh}
 use Rattle.book.proofs.Sizes.{sums_none}
 use borrow.Author.Rules.{rules}

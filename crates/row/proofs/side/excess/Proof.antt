@@ -1,11 +1,10 @@
 -- `row::side::excess` meets its contract. Assumes nothing.
-use lib.IntN.{ℤ, ◌-ℤ◌}
+use lib.IntN.{ℤ}
 use mir.Syntax.{w32, w64}
 use mir.Val.{SFits}
 use mir.Facts.{to_z-of_z}
 use Rattle.numbers.proofs.Fit.{fit}
 use Rattle.row.proofs.Sides.{Excess, excess}
-use borrow.Author.Rules.{rules}
 use Rattle.row.proofs.side.excess.Statement.{statement}
 use Rattle.row.proofs.side.excess.Tie as tie
 

@@ -9,7 +9,7 @@ loop-i-preserved c =
     let a = c.args in
     let h = c.loop-i-test.true in
     elim c.if-remainder-remainders.branch [
-      then-remainder-remainders w ↦ omega (arith, larger_above a.remainders.now c.loop-i.i h a.remainder (omega arith))
+      | then-remainder-remainders w ↦ omega (arith, larger_above a.remainders.now c.loop-i.i h a.remainder (omega arith))
       | else-remainder-remainders w ↦ omega (arith, larger_past a.remainders.now c.loop-i.i h a.remainder (omega arith))
     ]
 

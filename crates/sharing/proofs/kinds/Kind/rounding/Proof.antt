@@ -1,5 +1,4 @@
 -- `sharing::kinds::Kind::rounding` meets its contract. Assumes nothing.
-use mathlib.Core.Path.{◌≡◌}
 use mir.Facts.{Fits-le, Fits-lit}
 use Rattle.sharing.proofs.Sizes.{toward_most}
 use borrow.Author.Rules.{rules}
