@@ -12,7 +12,7 @@ use Rattle.codec.specs.Put.{Put}
 use Rattle.codec.proofs.Puts.{both, kept, loosen, none}
 use Rattle.report.specs.declared.run.Plan.{Plan}
 use Rattle.report.specs.declared.run.Verdict.TheVariants.{Accepted, Refused}
-use Rattle.report.specs.Running.{Kept, after, kept_in}
+use Rattle.report.specs.Running.{Kept, kept_in}
 use Rattle.cut.specs.Running.{CutRan, followed, cut_second_in, cut_seconds_in}
 use Rattle.cut.proofs.Parts.{after_text}
 use Rattle.cut_run.specs.declared.Cut.{Cut}

@@ -1,8 +1,8 @@
 -- The claims of specs/Claims.antt. Assumes nothing.
-use mathlib.Core.Path.{◌≡◌, refl, sym, ap, ◌∙◌}
+use mathlib.Core.Path.{◌≡◌, refl, sym, ◌∙◌}
 use mathlib.Core.Bool.{Bool, true, false}
 use mathlib.Core.List.{List, [], ◌∷◌, ◌++◌, append_assoc, append-nil}
-use Prim.Native.Nat.{ℕ, zero, suc, ◌+◌, ◌-◌, ◌≤◌, ◌<◌}
+use Prim.Native.Nat.{ℕ, zero, suc, ◌+◌, ◌-◌, ◌<◌}
 use native.Mathlib.Omega.{arith}
 use lib.Dec.{eqb}
 use lib.ListN.{length, take, drop, length-append}
@@ -10,10 +10,8 @@ use borrow.Author.Tests.{eqb-false}
 use Rattle.numbers.specs.Rules.{or_else}
 use Rattle.sheet.specs.declared.Sheet.{Sheet}
 use Rattle.sheet.specs.Sheet.{InRange}
-use Rattle.book.specs.Seconds.{BookSecond, History}
 use Rattle.book.specs.Sums.{sums_of}
-use Rattle.book.specs.Run.{accepted, book_after}
-use Rattle.book.specs.State.{fresh}
+use Rattle.book.specs.Run.{accepted}
 use Rattle.book.proofs.Claims as book
 use Rattle.block.specs.Places.{block_size}
 use Rattle.block.specs.Header.{header_number, owner_of, seconds_of}
@@ -21,14 +19,14 @@ use Rattle.report.specs.declared.Form.{Form}
 use Rattle.report.specs.declared.run.Verdict.{Verdict}
 use Rattle.report.specs.declared.run.Verdict.TheVariants as verdict
 use Rattle.standing.specs.declared.Standing.{Standing}
-use Rattle.printed.specs.Printed.{judged, judged_in, number_in, end_text, printed}
+use Rattle.printed.specs.Printed.{judged_in, number_in, end_text, printed}
 use Rattle.standing.specs.Standing.{start, is_due, bytes_due}
 use Rattle.pieces.specs.Pieces.{wanted_by, wanted_in, byte_by, byte_in, bytes_in, last_in}
 use Rattle.printed.specs.Claims.{told, joined, seconds_held, SumLine, Claims}
 use Rattle.standing.proofs.Steps.{none_left, refused_not_due, due_block}
 use Rattle.pieces.proofs.Bytes.{cut, beyond}
 use Rattle.printed.proofs.Judged.{all_accepted}
-use Rattle.printed.proofs.Told.{closed, whole}
+use Rattle.printed.proofs.Told.{whole}
 
 -- ---- any cut
 

@@ -1,6 +1,6 @@
 -- The seconds of a block run on the book that a past left are the ones judged over that past. Assumes nothing.
 use mathlib.Core.Path.{◌≡◌, refl, sym, ap, ◌∙◌}
-use mathlib.Core.List.{List, [], ◌∷◌, ◌++◌, append_assoc, map}
+use mathlib.Core.List.{List, [], ◌∷◌, ◌++◌, append_assoc}
 use Prim.Native.Nat.{ℕ, zero, suc}
 use native.Mathlib.Omega.{arith}
 use lib.ListN.{length}
@@ -10,7 +10,7 @@ use Rattle.book.specs.Seconds.{BookSecond, History, Closed}
 use Rattle.book.specs.Refusals.{number_at, Accepted, grown}
 use Rattle.book.specs.Rows.{unit_row_at, a_row_at, b_row_at}
 use Rattle.book.specs.Run.{accepted}
-use Rattle.book.specs.State.{state_of, second_of, step_in}
+use Rattle.book.specs.State.{second_of}
 use Rattle.report.specs.declared.Form.{Form}
 use Rattle.report.specs.declared.run.Plan.{Plan}
 use Rattle.report.specs.declared.run.Verdict.{Verdict}

@@ -1,8 +1,8 @@
 -- The bytes of a book, block after block, give what is printed of it. Assumes nothing.
 use mathlib.Core.Path.{◌≡◌, refl, sym, ap, ◌∙◌}
-use mathlib.Core.Bool.{Bool, true, false, cond}
-use mathlib.Core.List.{List, [], ◌∷◌, ◌++◌, append_assoc, append-nil, map}
-use Prim.Native.Nat.{ℕ, zero, suc, ◌+◌, ◌-◌, ◌/◌, ◌≤◌, ◌<◌}
+use mathlib.Core.Bool.{Bool, true, false}
+use mathlib.Core.List.{List, [], ◌∷◌, ◌++◌, append_assoc}
+use Prim.Native.Nat.{ℕ, zero, suc, ◌+◌, ◌≤◌, ◌<◌}
 use native.Mathlib.Numerals.{add-one}
 use native.Mathlib.Omega.{arith}
 use lib.Dec.{leb}
@@ -14,13 +14,12 @@ use Rattle.sheet.specs.declared.Sheet.{Sheet}
 use Rattle.sheet.specs.Sheet.{InRange}
 use Rattle.book.specs.Seconds.{BookSecond, History}
 use Rattle.book.specs.Refusals.{Accepted}
-use Rattle.book.specs.State.{state_of, fresh, second_of}
-use Rattle.block.specs.Places.{block_size, per_block}
+use Rattle.book.specs.State.{state_of, second_of}
+use Rattle.block.specs.Places.{block_size}
 use Rattle.block.specs.Header.{header_number, owner_of, seconds_of}
 use Rattle.block.specs.Block.{block_number, count_of, seconds_from}
-use Rattle.block.specs.Book.{Held, held_by, past_last, later_blocks, last_block, blocks_of}
+use Rattle.block.specs.Book.{Held, held_by, past_last, later_blocks, last_block}
 use Rattle.report.specs.declared.Form.{Form}
-use Rattle.report.specs.declared.run.Verdict.{Verdict}
 use Rattle.report.specs.declared.run.Verdict.TheVariants as verdict
 use Rattle.report.specs.Running.{Kept, Ran, block_in, seconds_in}
 use Rattle.report.specs.Counts.{tally_of, kept_of}
@@ -28,7 +27,7 @@ use Rattle.book.proofs.Claims.{fresh_is, none_accepted}
 use Rattle.report.proofs.Past.{tally_none}
 use Rattle.report.proofs.Kept.{counted}
 use Rattle.standing.specs.declared.Standing.{Standing}
-use Rattle.printed.specs.Printed.{Judged, judged, last_text, end_text, book_seconds, printed_by, printed}
+use Rattle.printed.specs.Printed.{Judged, judged, end_text, book_seconds, printed_by, printed}
 use Rattle.standing.specs.Standing.{start, kept_by, with_verdict, after_header, later_by, is_due, standing_in, end_of, last_line_in}
 use Rattle.standing.proofs.Steps.{refused_not_due, header_is, later_is}
 use Rattle.pieces.specs.Pieces.{onward, bytes_in, last_in}

@@ -14,7 +14,7 @@ use Rattle.codec.proofs.Puts.{loosen, none}
 use Rattle.report.specs.declared.run.Plan.{Plan}
 use Rattle.report.specs.declared.run.Verdict.TheVariants.{Refused}
 use Rattle.report.specs.Text.{block_room}
-use Rattle.report.specs.Running.{Kept, refused_at, seconds_in, block_by, block_in, run_of, kept_in, KeptReady, Adds}
+use Rattle.report.specs.Running.{Kept, refused_at, seconds_in, block_by, block_in, run_of, KeptReady, Adds}
 
 module _ (p : Plan) (n : ℕ) (s : List ℕ) where
   pub whole : {r : Block} {m : ℕ} → r ≡ reader.Seconds m → block_says r ≡ block_of s p.seconds n → (length s ≡ block_size) × (m ≤ per_block)

@@ -18,7 +18,6 @@ use Rattle.book.proofs.Claims.{fresh_is, none_accepted}
 use Rattle.line.proofs.Short.{silent}
 use Rattle.book.specs.Run.{accepted}
 use Rattle.book.specs.State.{fresh}
-use Rattle.tally.specs.declared.Tally.{Tally}
 use Rattle.tally.specs.Tally.{zero}
 use Rattle.report.specs.declared.Form.{Form}
 use Rattle.report.specs.Running.{Kept, keep}

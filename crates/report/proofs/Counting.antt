@@ -9,7 +9,7 @@ use Rattle.plant.specs.declared.PlantAnswer.TheVariants as plant-answer
 use Rattle.plant.proofs.Counted as plant
 use Rattle.book.specs.declared.Book.{Book}
 use Rattle.book.specs.declared.BookStep.{BookStep}
-use Rattle.book.specs.declared.BookAnswer.TheVariants.{Rows, Refused, RefusedBy}
+use Rattle.book.specs.declared.BookAnswer.TheVariants.{Rows}
 use Rattle.book.specs.declared.Plant.{Plant}
 use Rattle.book.specs.declared.Plant.TheVariants.{U, A, B}
 use Rattle.book.specs.Seconds.{BookSecond, unit_bytes}

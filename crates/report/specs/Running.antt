@@ -9,7 +9,6 @@ use Rattle.tally.specs.declared.Tally.{Tally}
 use Rattle.tally.specs.Tally.{tally_with, TallyWithin}
 use Rattle.block.specs.Block.{block_number, count_of, seconds_from}
 use Rattle.codec.specs.Put.{Put}
-use Rattle.report.specs.declared.Form.{Form}
 use Rattle.report.specs.declared.run.Plan.{Plan}
 use Rattle.report.specs.declared.run.Run.{Run}
 use Rattle.report.specs.declared.run.Verdict.{Verdict}

@@ -22,8 +22,7 @@ use Rattle.report.specs.declared.run.Verdict.TheVariants.{Accepted, Refused}
 use Rattle.report.specs.Running.{Kept, Ran, Adds, block_in}
 use Rattle.report.specs.Text.{block_room}
 use Rattle.standing.specs.declared.Standing.{Standing}
-use Rattle.standing.specs.declared.Advance.{Advance}
-use Rattle.standing.specs.Standing.{Went, unmoved, kept_by, with_verdict, after_header, header_by, later_by, beyond_by, due_by, is_due, standing_in, bytes_due, StandingReady, Advances}
+use Rattle.standing.specs.Standing.{Went, kept_by, with_verdict, after_header, header_by, later_by, beyond_by, due_by, is_due, standing_in, bytes_due, StandingReady, Advances}
 
 -- ---- the header
 
