@@ -1,0 +1,5 @@
+use Rattle.check_cut.proofs.Opened.{header_taken}
+use Rattle.check_cut.proofs.open.Goals as goal
+
+pub returns-in-Fields : goal.returns-in-Fields
+returns-in-Fields c = header_taken c.args.bytes.now c.in-Fields.is c.read_header.ensures
