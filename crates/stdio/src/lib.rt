@@ -38,10 +38,10 @@ fn receive<R: Read>(input: &mut R, bytes: &mut [u8], wanted: usize) -> io::Resul
     input.read(&mut bytes[..wanted])
 }
 
-fn send(rt: &impl Print, out: &[u8], end: usize) -> bool
+fn send(rt: &impl Print, out: &[u8], end: usize) -> io::Result<()>
     requires { end ≤ length out.now }
 {
-    rt.write_all(&out[..end]).is_ok()
+    rt.write_all(&out[..end])
 }
 
 // On standard error; where that fails, nothing is left to be done.
@@ -49,14 +49,16 @@ fn say(rt: &impl Eprint, text: &str) {
     let _ = rt.eprint(text);
 }
 
-// Sends the text of a piece, and says so where that fails: nothing more is sent then.
+// Sends the text of a piece, and says so where that fails: nothing more is sent then. Where the reader of a pipe has gone, nobody asks.
 fn sent(rt: &(impl Print + Eprint), out: &[u8], end: usize) -> Next
     requires { end ≤ length out.now }
 {
-    if send(rt, out, end) {
+    let Err(error) = send(rt, out, end) else {
         return Next::Read;
+    };
+    if error.kind() != io::ErrorKind::BrokenPipe {
+        say(rt, "the output could not be written\n");
     }
-    say(rt, "the output could not be written\n");
     Next::Stop
 }
 
