@@ -1,3 +1,4 @@
+-- `check_cut::open` meets its contract, by the reader's answer. Assumes nothing.
 use Rattle.check_cut.proofs.Opened.{header_taken}
 use Rattle.check_cut.proofs.open.Goals as goal
 

@@ -1,3 +1,4 @@
+-- `reserve_sheet::form_number` meets its contract. Assumes nothing.
 use Rattle.std.proofs.Common.{sym, ◌∙◌}
 use borrow.Author.Tests.{eq-eqb}
 use Rattle.numbers.proofs.Test.{tests, chain}

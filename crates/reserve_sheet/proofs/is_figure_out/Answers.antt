@@ -1,3 +1,4 @@
+-- `reserve_sheet::is_figure_out` meets its contract. Assumes nothing.
 use Rattle.std.proofs.Common.{sym, ap, ◌∙◌}
 use borrow.Author.Tests.{eq-eqb, ne_eqb}
 use Rattle.sheet.specs.Sheet.{sheet_number}

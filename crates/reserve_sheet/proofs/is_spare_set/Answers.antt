@@ -1,3 +1,4 @@
+-- `reserve_sheet::is_spare_set` meets its contract. Assumes nothing.
 use Rattle.std.proofs.Common.{sym, ◌∙◌}
 use borrow.Author.Tests.{eq-eqb, ne_eqb}
 use Rattle.numbers.proofs.Test.{tests, either}

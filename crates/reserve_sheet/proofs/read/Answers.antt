@@ -1,3 +1,4 @@
+-- `reserve_sheet::read` meets its contract. Assumes nothing.
 use Rattle.std.proofs.Common.{sym, ◌∙◌}
 use Rattle.reserve_sheet.proofs.Taken.{long, refused, figures}
 use Rattle.reserve_sheet.proofs.read.Goals as goal

@@ -1,3 +1,4 @@
+-- `stdio::turns` goes on from where the book stood. Assumes nothing.
 use Rattle.std.proofs.Common.{refl, rules}
 use Rattle.stdio.proofs.Joined.{none, both}
 use Rattle.stdio.proofs.turns.Goals as goal

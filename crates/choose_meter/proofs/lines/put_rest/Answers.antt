@@ -1,3 +1,4 @@
+-- `choose_meter::lines::put_rest` meets its contract. Assumes nothing.
 use Rattle.std.proofs.Common.{List, ℕ, arith, subst}
 use Prim.Native.Nat.{zero-le}
 use Rattle.codec.specs.Put.{Put}

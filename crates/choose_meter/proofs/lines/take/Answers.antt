@@ -1,3 +1,4 @@
+-- `choose_meter::lines::take` meets its contract. Assumes nothing.
 use Rattle.std.proofs.Common.{arith}
 use Rattle.codec.proofs.Puts.{loosen}
 use Rattle.choose_meter.proofs.Laws.{rest_is}

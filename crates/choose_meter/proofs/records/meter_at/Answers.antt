@@ -1,3 +1,4 @@
+-- `choose_meter::records::meter_at` meets its contract. Assumes nothing.
 use Rattle.std.proofs.Common.{ap, ◌∙◌, get_or}
 use lib.Ieee.{binary32, of_bits}
 use Rattle.choose_meter.specs.Records.{reading_of, meter_at}

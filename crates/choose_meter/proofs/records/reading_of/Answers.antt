@@ -1,3 +1,4 @@
+-- `choose_meter::records::reading_of` meets its contract. Assumes nothing.
 use borrow.Author.Tests.{eq-eqb, ne_eqb}
 use Rattle.choose_meter.specs.Records.{reading_of}
 use Rattle.choose_meter.proofs.records.reading_of.Goals as goal
