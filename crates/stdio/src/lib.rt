@@ -1,5 +1,5 @@
-// The loop that reads a book from standard input, has it taken, and sends the text: the one part of a program that no contract can hold to what
-// is read and written (docs/READING.md). That it goes on from where the book stood is in its contracts (specs/Turns.antt).
+// The loop that reads a book, has it taken, and sends the text: the one part of a program whose contracts don't say what is read from standard input
+// and written (docs/READING.md). That it goes on from where the book stood is in its contracts (specs/Turns.antt).
 #![tactic(auto)]
 
 ghost use Rattle.std.specs.Prelude.{◌≤◌, length, IfOk};
