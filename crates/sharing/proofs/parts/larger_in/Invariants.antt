@@ -1,5 +1,5 @@
 -- The count so far and that of the rest make up the whole.
-use Rattle.std.proofs.Common.{length, ◌+◌, ◌≡◌, ◌≤◌, drop}
+use Rattle.std.proofs.Common.{◌+◌, ◌≡◌, ◌≤◌, drop}
 use Rattle.sharing.specs.Shares.{larger, remainders_in}
 use Rattle.sharing.proofs.parts.larger_in.Given as goal
 
