@@ -29,8 +29,7 @@ pub fn last_block(seconds: u32) -> u32
     requires { seconds ≤ most_seconds }
     ensures { (result ≡ last_block seconds) × (result ≤ most_seconds) }
 {
-    let most = PER_BLOCK as u32;
-    (seconds + (most - 1)) / most
+    seconds.div_ceil(PER_BLOCK as u32)
 }
 
 // How many seconds block n of the book has: 4, fewer in the last, none after it.
@@ -38,16 +37,9 @@ fn due(seconds: u32, n: u32) -> usize
     requires { 0 < n }
     ensures { (result ≡ due_in seconds n) × (result ≤ per_block) }
 {
-    let all = seconds as usize;
     let before = PER_BLOCK * (n as usize - 1);
-    if all <= before {
-        return 0;
-    }
-    if all - before < PER_BLOCK {
-        all - before
-    } else {
-        PER_BLOCK
-    }
+    let left = (seconds as usize).saturating_sub(before);
+    left.min(PER_BLOCK)
 }
 
 // The place of second i, counted from 0; past the last second, that of the unused ones.
