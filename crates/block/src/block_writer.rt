@@ -10,8 +10,8 @@ use crate::{CHECK_AT, SIZE};
 use refusals::Refusal;
 
 // A later block's fields and their check.
-fn put_block(buf: &mut [u8], n: u32, seconds: &[u8])
-    requires { (length buf.old ≡ block_size) × (length seconds.now ≤ second_size * per_block) }
+fn put_block(buf: &mut [u8; SIZE], n: u32, seconds: &[u8])
+    requires { length seconds.now ≤ second_size * per_block }
     ensures { buf.new ≡ block_bytes n seconds.now }
 {
     let at = codec::put_u32(buf, 0, n);
@@ -27,9 +27,7 @@ fn put_block(buf: &mut [u8], n: u32, seconds: &[u8])
 pub fn write_block(buf: &mut [u8], n: u32, seconds: &[u8]) -> Result<(), Refusal>
     ensures { record { said = written_says result; buffer = buf.new } ≡ block_written buf.old n seconds.now }
 {
-    if buf.len() != SIZE {
-        return Err(Refusal::Length);
-    }
+    let block = buf.as_mut_array().ok_or(Refusal::Length)?;
     if n == 0 {
         return Err(Refusal::BlockNumber);
     }
@@ -37,6 +35,6 @@ pub fn write_block(buf: &mut [u8], n: u32, seconds: &[u8]) -> Result<(), Refusal
     if seconds.len() % SECOND != 0 || count == 0 || count > PER_BLOCK {
         return Err(Refusal::SecondsBytes);
     }
-    put_block(buf, n, seconds);
+    put_block(block, n, seconds);
     Ok(())
 }

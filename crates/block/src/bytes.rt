@@ -6,7 +6,7 @@ ghost use Rattle.block.specs.Bytes.{part, all_zero, zeros};
 ghost use Rattle.block.specs.Check.{check_of};
 ghost use Rattle.block.specs.Layout.{closed};
 
-use crate::CHECK_AT;
+use crate::{CHECK_AT, SIZE};
 
 pub(crate) fn check_of(s: &[u8]) -> u32
     requires { check_at ≤ length s.now }
@@ -36,8 +36,7 @@ pub(crate) fn put_zeros(buf: &mut [u8], from: usize, end: usize) -> usize
 }
 
 // The check of the bytes before it, put after them.
-pub(crate) fn put_check(buf: &mut [u8])
-    requires { length buf.old ≡ block_size }
+pub(crate) fn put_check(buf: &mut [u8; SIZE])
     ensures { buf.new ≡ closed (part buf.old 0 check_at) }
 {
     let check = check_of(buf);

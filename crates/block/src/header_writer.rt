@@ -10,8 +10,7 @@ use crate::{CHECK_AT, SIZE};
 use refusals::Refusal;
 
 // The header's fields and their check.
-fn put_header(buf: &mut [u8], owner: u8, seconds: u32)
-    requires { length buf.old ≡ block_size }
+fn put_header(buf: &mut [u8; SIZE], owner: u8, seconds: u32)
     ensures { buf.new ≡ header_bytes owner seconds }
 {
     let at = codec::put_u32(buf, 0, first_bytes());
@@ -28,15 +27,13 @@ fn put_header(buf: &mut [u8], owner: u8, seconds: u32)
 pub fn write_header(buf: &mut [u8], owner: u8, seconds: u32) -> Result<(), Refusal>
     ensures { record { said = written_says result; buffer = buf.new } ≡ header_written buf.old owner seconds }
 {
-    if buf.len() != SIZE {
-        return Err(Refusal::Length);
-    }
+    let block = buf.as_mut_array().ok_or(Refusal::Length)?;
     if owner > record::ALL_KINDS {
         return Err(Refusal::Owner);
     }
     if seconds == 0 || seconds > record::MOST_SECONDS {
         return Err(Refusal::BookSeconds);
     }
-    put_header(buf, owner, seconds);
+    put_header(block, owner, seconds);
     Ok(())
 }

@@ -6,5 +6,5 @@ pub returns : goal.returns
 returns c =
     let n = c.args.n in
     let body = c.args.seconds.now in
-    let put = block_put n body c.put_u32-at.ensures c.put_byte-at.ensures c.put_zeros-at.ensures c.put_bytes-at.ensures c.put_zeros.ensures c.requires.1 in
-    close_put (block_front_length n body c.requires.1) put c.put_check.ensures
+    let put = block_put n body c.put_u32-at.ensures c.put_byte-at.ensures c.put_zeros-at.ensures c.put_bytes-at.ensures c.put_zeros.ensures c.requires in
+    close_put (block_front_length n body c.requires) put c.put_check.ensures
