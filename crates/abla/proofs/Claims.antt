@@ -6,6 +6,7 @@ use native.Mathlib.Omega.{arith}
 use mathlib.Core.Bool.{true, false}
 use lib.Dec.{lit<}
 use lib.IntN.{ℤ, pos, ◌*ℤ◌}
+use Rattle.refusals.specs.Refusals.{Refused}
 use Rattle.power.specs.declared.kilowatts.Kw.{Kw}
 use Rattle.power.specs.Units.{kw, in_grains}
 use Rattle.power.specs.Inward.{upper_kw, lower_kw, Contains}
@@ -13,12 +14,10 @@ use Rattle.numbers.specs.Bounds.{outside}
 use Rattle.numbers.proofs.Parts.{shows, mul_nat}
 use Rattle.abla.specs.declared.load.LoadSecond.{LoadSecond}
 use Rattle.abla.specs.declared.AblaState.{AblaState}
-use Rattle.abla.specs.declared.AblaStep.{AblaStep}
-use Rattle.abla.specs.declared.AblaAnswer.TheVariants.{Given, Refused}
 use Rattle.abla.specs.Calls.{History, off, is_on, flagged}
 use Rattle.abla.specs.Band.{per_kw, fifth_of, setpoint_of, stage_limits, none, limits_on, limits_at, band_at}
 use Rattle.abla.specs.Refusals.{filled, fields_out, point_out, signal_out, load_rules, refusal}
-use Rattle.abla.specs.State.{refusal_in, accepted_in, step_by, step_in}
+use Rattle.abla.specs.State.{AblaStep, given_value, refusal_in, accepted_in, step_by, step_in}
 use Rattle.abla.specs.Claims.{Claims}
 use Rattle.abla.proofs.Runs.{latest_run, no_run}
 use Rattle.abla.proofs.Rules.{off_zero, uncalled_zero}
@@ -48,7 +47,7 @@ off_accepted : (h : History) (w : Kw) → refusal h (off w) ≡ 0
 unfolding refusal load_rules fields_out point_out signal_out filled outside is_on flagged
 off_accepted h w = refl
 
-off_given : (s : AblaState) (w : Kw) → (step_in s (off w)).answer ≡ Given (kw (pos 0)) (record { low = kw (pos 0); high = kw (pos 0) })
+off_given : (s : AblaState) (w : Kw) → (step_in s (off w)).answer ≡ given_value (kw (pos 0)) (record { low = kw (pos 0); high = kw (pos 0) })
 unfolding step_in step_by refusal_in accepted_in load_rules fields_out point_out signal_out filled outside is_on flagged limits_on none upper_kw lower_kw
 off_given s w = refl
 
@@ -63,7 +62,7 @@ by_number (suc k) old new f e = refl
 
 unchanged : (s : AblaState) (x : LoadSecond) {n : ℕ} → (step_in s x).answer ≡ Refused n → (step_in s x).state ≡ s
 unfolding step_in
-unchanged s x e = by_number (refusal_in s x) s (accepted_in s x) (never s x refl) e
+unchanged s x e = by_number (refusal_in s x) s (accepted_in s x) (never s x) e
 
 pub claims : Claims
 claims =

@@ -8,18 +8,18 @@ use borrow.Author.Tests.{lt-ltb, lt-leb, ltb-true, ltb-false, leb-true, leb-fals
 use lib.Dec.{leb, ltb}
 use Rattle.numbers.specs.Rules.{first}
 use Rattle.numbers.proofs.Rules.{both_true}
+use Rattle.refusals.specs.Refusals.{answer_number}
 use Rattle.power.specs.declared.limits.Limits.{Limits}
 use Rattle.power.specs.Units.{kw, grains}
 use Rattle.abla.specs.declared.load.LoadSecond.{LoadSecond}
 use Rattle.abla.specs.declared.stage.Stage.{Stage}
 use Rattle.abla.specs.declared.stage.Stage.TheVariants.{Blank, Holding, Called, Returning}
-use Rattle.abla.specs.declared.AblaAnswer.TheVariants.{Given}
-use Rattle.abla.specs.Calls.{History, flagged, flagged_last, Call, no_call, begun, longer, latest, since, quarter_hour, hour, in_first, in_return}
+use Rattle.abla.specs.Calls.{History, flagged, is_quick, flagged_last, Call, no_call, begun, longer, latest, since, quarter_hour, hour, in_first, in_return}
 use Rattle.abla.proofs.Runs.{goes_on, begins, none_since, stays, one_since, some}
 use Rattle.abla.specs.Band.{setpoint_of, called, lower_of, lower_before, ramp_of, returning, holds, stage_limits, limits_at, band_at}
 use Rattle.abla.specs.Band as bands
 use Rattle.abla.specs.Refusals.{is_blank, rules_at, refusal}
-use Rattle.abla.specs.State.{stage_of, state_of, more, begun_in, flagged_in, unflagged_in, stage_in, blank_in, holding_in, first_in, limits_in, holds_in, rules_in, refusal_in, accepted_in, step_by, step_in, step_of, number_in, setpoint_in, band_in}
+use Rattle.abla.specs.State.{stage_of, state_of, more, begun_in, flagged_in, unflagged_in, stage_in, blank_in, holding_in, first_in, limits_in, holds_in, rules_in, refusal_in, accepted_in, step_by, step_in, step_of, given_value, setpoint_in, band_in}
 
 -- ---- counts up to one hour
 
@@ -85,7 +85,7 @@ module _ (c : Call) (k : ℕ) where
 -- ---- the stage, a second later
 
 -- of a past whose newest second has a set flag, and of one whose newest second has none
-in_call_lem : (x : LoadSecond) (h : History) → flagged x ≡ true → stage_of (x ∷ h) ≡ Called (latest (x ∷ h)).first.class (min (latest (x ∷ h)).seconds hour) (ramp_of (latest (x ∷ h)))
+in_call_lem : (x : LoadSecond) (h : History) → flagged x ≡ true → stage_of (x ∷ h) ≡ Called (is_quick (latest (x ∷ h)).first.class) (min (latest (x ∷ h)).seconds hour) (ramp_of (latest (x ∷ h)))
 unfolding stage_of
 in_call_lem x h f = rw f
 
@@ -99,7 +99,7 @@ last_is y h = refl
 
 -- the stage of a call that the newest second is in
 abbrev in_call : Call → Stage
-in_call c = Called c.first.class (min c.seconds hour) (ramp_of c)
+in_call c = Called (is_quick c.first.class) (min c.seconds hour) (ramp_of c)
 
 begun_stage : (h : History) (x : LoadSecond) → begun_in (grains (lower_before h)) x ≡ in_call (begun x h)
 unfolding begun_in ramp_of begun
@@ -233,7 +233,7 @@ state_is : (h : History) (x : LoadSecond) → state_of (x ∷ h) ≡ record { st
 unfolding state_of lower_before
 state_is h x = refl
 
-pub accepted : (h : History) (x : LoadSecond) → accepted_in (state_of h) x ≡ record { answer = Given (kw (setpoint_of x)) (band_at h x); state = state_of (x ∷ h) }
+pub accepted : (h : History) (x : LoadSecond) → accepted_in (state_of h) x ≡ record { answer = given_value (kw (setpoint_of x)) (band_at h x); state = state_of (x ∷ h) }
 unfolding accepted_in limits_at
 accepted h x = rw (same_stage h x, same_limits h x, state_is h x)
 
@@ -245,13 +245,13 @@ follows h x = rw (same_number h x, accepted h x)
 
 -- ---- its answer in 02's figures
 
-pub number : (h : History) (x : LoadSecond) → number_in (step_in (state_of h) x).answer ≡ refusal h x
+pub number : (h : History) (x : LoadSecond) → answer_number (step_in (state_of h) x).answer ≡ refusal h x
 unfolding step_of step_by
 number h x = rw (follows h x) (go (refusal h x))
   where
     go :
         (n : ℕ) →
-        number_in (step_by n (state_of h) (record { answer = Given (kw (setpoint_of x)) (band_at h x); state = state_of (x ∷ h) })).answer ≡ n
+        answer_number (step_by n (state_of h) (record { answer = given_value (kw (setpoint_of x)) (band_at h x); state = state_of (x ∷ h) })).answer ≡ n
     go zero = refl
     go (suc n) = refl
 

@@ -1,30 +1,35 @@
 -- The ends of a step, from any state that is ready. Assumes nothing.
+use Rattle.std.specs.Prelude.{Result, Err}
 use mathlib.Core.Path.{◌≡◌, refl, sym, ap, ◌∙◌}
 use mathlib.Core.List.{[], ◌∷◌}
-use Prim.Native.Nat.{ℕ, zero, suc}
-use native.Mathlib.Omega.{arith}
+use Prim.Native.Nat.{ℕ}
 use Rattle.numbers.specs.Bounds.{Within}
 use Rattle.numbers.proofs.Fit.{fit}
-use Rattle.power.specs.declared.kilowatts.Kw.{Kw}
-use Rattle.power.specs.declared.limits.Band.{Band}
+use Rattle.refusals.specs.declared.Refusal.{Refusal}
+use Rattle.refusals.specs.Refusals.{Given, Refused, told}
+use Rattle.refusals.specs.Refusals as refusals
+use Rattle.refusals.proofs.Laws.{Positive, positive, number_positive, not_zero}
 use Rattle.power.specs.Units.{kw}
 use Rattle.power.specs.Inward.{published_of}
 use Rattle.abla.specs.declared.load.LoadSecond.{LoadSecond}
 use Rattle.abla.specs.declared.AblaState.{AblaState}
-use Rattle.abla.specs.declared.AblaStep.{AblaStep}
-use Rattle.abla.specs.declared.AblaAnswer.TheVariants.{Given, Refused}
+use Rattle.abla.specs.declared.AblaValue.{AblaValue}
 use Rattle.abla.specs.Calls.{History}
 use Rattle.abla.specs.Band.{per_kw, setpoint_of, limits_on, lower_before, band_at}
 use Rattle.abla.specs.Refusals.{most_power, Accepted}
-use Rattle.abla.specs.State.{stage_of, state_of, Ready, Fair, stage_in, limits_in, refusal_in, accepted_in, step_by, step_in, GivenRange, Stepped}
+use Rattle.abla.specs.State.{AblaStep, stage_of, state_of, Ready, Fair, stage_in, limits_in, refusal_in, accepted_in, step_by, step_in, GivenRange, Stepped}
 use Rattle.abla.proofs.Rules.{fair, off_zero}
 use Rattle.abla.proofs.Past.{same_number, accepted}
 use Rattle.abla.proofs.Ready.{next_ready, small}
 use Rattle.abla.proofs.Inside.{contains}
 
-pub never : (s : AblaState) (x : LoadSecond) {r : AblaStep} {n : ℕ} → r ≡ accepted_in s x → r.answer ≡ Refused n → ⊥
+pub never : (s : AblaState) (x : LoadSecond) {n : ℕ} → (accepted_in s x).answer ≡ Refused n → ⊥
 unfolding accepted_in
-never s x e k = let z : ◌≡◌ {A = ℕ} 0 1 = cc in omega arith
+never s x e = cc
+
+refuses : (s : AblaState) (a : AblaStep) {n : ℕ} → Positive n → ◌≡◌ {A = AblaStep} (record { answer = Refused n; state = s }) (step_by n s a)
+unfolding step_by
+refuses s a (positive n) = refl
 
 module _ (s : AblaState) (ok : Ready s) (x : LoadSecond) where
   pub taken_fair : refusal_in s x ≡ 0 → Within most_power x.working.0 → Fair x
@@ -41,42 +46,39 @@ module _ (s : AblaState) (ok : Ready s) (x : LoadSecond) where
         small = small s ok x f z;
       }
 
-  pub answer_range : refusal_in s x ≡ 0 → Fair x → {v : Kw} {b : Band} → (accepted_in s x).answer ≡ Given v b → GivenRange v b
+  answer_range : refusal_in s x ≡ 0 → Fair x → {v : AblaValue} → (accepted_in s x).answer ≡ Given v → GivenRange v.setpoint v.band
   unfolding accepted_in
-  answer_range z f {v} {b} e =
-      let p : kw (setpoint_of x) ≡ v = cc in
-      let q : published_of per_kw (limits_on x (limits_in (stage_in s x) x)) ≡ b = cc in
+  answer_range z f {v} e =
+      let p : kw (setpoint_of x) ≡ v.setpoint = cc in
+      let q : published_of per_kw (limits_on x (limits_in (stage_in s x) x)) ≡ v.band = cc in
       rw (← p, ← q) (given_in_lem z f)
 
-  pub taken_in : {r : AblaStep} → refusal_in s x ≡ 0 → Fair x → r ≡ accepted_in s x → Stepped s x r
-  unfolding step_in step_by accepted_in
-  taken_in z f e =
-      record {
-        is = rw (e, z);
-        number = rw (e, z);
-        given = λ k. answer_range z f (sym (ap (λ (r : AblaStep). r.answer) e) ∙ k);
-        refused = λ k. absurd (never s x e k);
-        ready = rw e (next_ready s ok x f);
-      }
-
-  by_number : (m : ℕ) → m ≡ refusal_in s x → (m ≡ 0 → ⊥) → ◌≡◌ {A = AblaStep} (record { answer = Refused m; state = s }) (step_in s x)
+  pub given : {v : AblaValue} {m : AblaState} → refusal_in s x ≡ 0 → Fair x → accepted_in s x ≡ record { answer = Given v; state = m } → Stepped s x (record { answer = Given v; state = m })
   unfolding step_in step_by
-  by_number zero e n = absurd (n refl)
-  by_number (suc m) e n = rw (← e)
-
-  pub turned_down : {m : ℕ} → m ≡ refusal_in s x → (m ≡ 0 → ⊥) → Stepped s x (record { answer = Refused m; state = s })
-  turned_down {m} e n =
+  given z f e =
       record {
-        is = by_number m e n;
-        number = e;
-        given = λ k. let z : ◌≡◌ {A = ℕ} 0 1 = cc in absurd (omega arith);
-        refused = λ {n = k} p q. let z : m ≡ k = cc in n (z ∙ q);
-        ready = ok;
+        is = rw z (sym e);
+        number = sym z;
+        given = λ k. answer_range z f (ap (λ (r : AblaStep). r.answer) e ∙ k);
+        refused = λ k. absurd (cc);
+        ready = rw e at (next_ready s ok x f);
       }
+
+  pub turned_down : {a : Result AblaValue Refusal} (e : Refusal) → a ≡ Err e → refusals.number_of e ≡ refusal_in s x → Stepped s x (record { answer = told a; state = s })
+  unfolding step_in
+  turned_down e f q =
+      rw f
+      (record {
+        is = rw (← q) (refuses s _ (number_positive e));
+        number = q;
+        given = λ k. absurd (cc);
+        refused = λ {n = n} k z. let m : refusals.number_of e ≡ n = cc in not_zero e (m ∙ z);
+        ready = ok;
+      })
 
 -- ---- after accepted seconds
 
-fresh : Ready (state_of [])
+pub fresh : Ready (state_of [])
 unfolding state_of stage_of lower_before
 fresh = record { stage_ready = tt; before_range = search fit }
 

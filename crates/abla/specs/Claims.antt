@@ -1,15 +1,15 @@
 -- What is claimed of AbLa's definitions, over every past. The proof is `claims` of proofs/Claims.antt.
 use Rattle.std.specs.Prelude.{◌≡◌, ℕ, ◌<◌, true, false, ◌∷◌, ℤ, pos, ◌*ℤ◌}
+use Rattle.refusals.specs.Refusals.{Refused, answer_number}
 use Rattle.power.specs.declared.kilowatts.Kw.{Kw}
 use Rattle.power.specs.Units.{kw, in_grains}
 use Rattle.power.specs.Inward.{Contains, Published}
 use Rattle.abla.specs.declared.load.LoadSecond.{LoadSecond}
 use Rattle.abla.specs.declared.AblaState.{AblaState}
-use Rattle.abla.specs.declared.AblaAnswer.TheVariants.{Given, Refused}
 use Rattle.abla.specs.Calls.{History, off, is_on, flagged, latest, since, in_first, Each, Ran}
 use Rattle.abla.specs.Band.{per_kw, fifth_of, setpoint_of, holding, called, holds, limits_at, band_at}
 use Rattle.abla.specs.Refusals.{rules_at, refusal, Accepted}
-use Rattle.abla.specs.State.{state_of, Ready, rules_in, step_in, step_of, number_in, setpoint_in, band_in, GivenRange}
+use Rattle.abla.specs.State.{state_of, Ready, rules_in, step_in, step_of, given_value, setpoint_in, band_in, GivenRange}
 
 pub record Claims : Type 0 where
   -- the latest call is the past's newest run of set flags, and where there is none no flag is set
@@ -25,7 +25,7 @@ pub record Claims : Type 0 where
   pub off_setpoint : (h : History) (x : LoadSecond) → refusal h x ≡ 0 → is_on x ≡ false → setpoint_of x ≡ pos 0
   -- and no past, and no state, keeps a load from being off
   pub off_accepted : (h : History) (w : Kw) → refusal h (off w) ≡ 0
-  pub off_given : (s : AblaState) (w : Kw) → (step_in s (off w)).answer ≡ Given (kw (pos 0)) (record { low = kw (pos 0); high = kw (pos 0) })
+  pub off_given : (s : AblaState) (w : Kw) → (step_in s (off w)).answer ≡ given_value (kw (pos 0)) (record { low = kw (pos 0); high = kw (pos 0) })
   -- "Holding: setpoint 0", and in a return ramp
   pub no_call_lem : (h : History) (x : LoadSecond) → refusal h x ≡ 0 → flagged x ≡ false → setpoint_of x ≡ pos 0
   -- outside the ramps the limits are those of the formulas: only a ramp's are widened
@@ -37,7 +37,7 @@ pub record Claims : Type 0 where
   -- a refused second leaves the state as it was
   pub unchanged : (s : AblaState) (x : LoadSecond) {n : ℕ} → (step_in s x).answer ≡ Refused n → (step_in s x).state ≡ s
   -- its answer in 02's figures
-  pub number : (h : History) (x : LoadSecond) → number_in (step_in (state_of h) x).answer ≡ refusal h x
+  pub number : (h : History) (x : LoadSecond) → answer_number (step_in (state_of h) x).answer ≡ refusal h x
   pub setpoint : (h : History) (x : LoadSecond) → refusal h x ≡ 0 → setpoint_in (step_in (state_of h) x).answer ≡ setpoint_of x
   pub band : (h : History) (x : LoadSecond) → refusal h x ≡ 0 → band_in (step_in (state_of h) x).answer ≡ band_at h x
   -- what a step asks of a state, and the ranges of what it gives

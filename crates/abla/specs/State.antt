@@ -1,5 +1,6 @@
 -- What the state holds after a past, and what a second makes of a state. The stage is that of the newest second; its times are relative to it.
 use Rattle.std.specs.Prelude.{◌≡◌, ℕ, zero, suc, ◌+◌, ◌*◌, min, Bool, true, false, not, cond, ◌&&◌, List, [], ◌∷◌, leb, ltb, ℤ, pos, ◌≤ℤ◌}
+use Rattle.refusals.specs.Refusals.{Answer, Given, Refused, answer_number}
 use Rattle.numbers.specs.Bounds.{Within}
 use Rattle.numbers.specs.Rules.{Rule, first}
 use Rattle.power.specs.declared.kilowatts.Kw.{Kw}
@@ -12,9 +13,7 @@ use Rattle.abla.specs.declared.load.LoadSecond.{LoadSecond}
 use Rattle.abla.specs.declared.stage.Stage.{Stage}
 use Rattle.abla.specs.declared.stage.Stage.TheVariants.{Blank, Holding, Called, Returning}
 use Rattle.abla.specs.declared.AblaState.{AblaState}
-use Rattle.abla.specs.declared.AblaStep.{AblaStep}
-use Rattle.abla.specs.declared.AblaAnswer.{AblaAnswer}
-use Rattle.abla.specs.declared.AblaAnswer.TheVariants.{Given, Refused}
+use Rattle.abla.specs.declared.AblaValue.{AblaValue}
 use Rattle.abla.specs.Calls.{History, flagged, is_quick, latest, since, quarter_hour, hour}
 use Rattle.abla.specs.Band.{per_kw, setpoint_of, lowest_point, holding, called, called_upper, lower_of, lower_before, ramp_of, returning, limits_on, band_at}
 use Rattle.abla.specs.Refusals.{most_power, load_rules, refusal}
@@ -26,7 +25,7 @@ unfoldable pub stage_of : History → Stage
 stage_of [] = Blank
 stage_of (x ∷ h) =
     cond (flagged x)
-    (Called (latest (x ∷ h)).first.class (min (latest (x ∷ h)).seconds hour) (ramp_of (latest (x ∷ h))))
+    (Called (is_quick (latest (x ∷ h)).first.class) (min (latest (x ∷ h)).seconds hour) (ramp_of (latest (x ∷ h))))
     (cond (returning (x ∷ h)) (Returning (since (x ∷ h)) (ramp_of (latest (x ∷ h)))) Holding)
 
 unfoldable pub state_of : History → AblaState
@@ -49,7 +48,7 @@ pub record LimitsReady (l : Limits) : Type 0 where
 abbrev pub StageReady : Stage → Type 0
 StageReady Blank = Unit
 StageReady Holding = Unit
-StageReady (Called class seconds ramp) = LimitsReady ramp
+StageReady (Called quick seconds ramp) = LimitsReady ramp
 StageReady (Returning since ramp) = LimitsReady ramp
 
 pub record Ready (s : AblaState) : Type 0 where
@@ -74,25 +73,33 @@ pub record PointIn (x : LoadSecond) : Type 0 where
 
 -- ---- what a second makes of a state: the definitions over the past, on what the state holds
 
+-- a second's answer, and the state after it
+pub record AblaStep : Type 0 where
+  pub answer : Answer AblaValue
+  pub state : AblaState
+
+abbrev pub given_value : Kw → Band → Answer AblaValue
+given_value s b = Given (record { setpoint = s; band = b })
+
 -- one more second of a call, up to one hour
 unfoldable pub more : ℕ → ℕ
 more n = cond (ltb n hour) (n + 1) n
 
 -- the stage at second x with a set flag: its call goes on, or it begins
 unfoldable pub begun_in : Grains → LoadSecond → Stage
-begun_in before x = Called x.class 1 (record { lower = before; upper = grains (called_upper x) })
+begun_in before x = Called (is_quick x.class) 1 (record { lower = before; upper = grains (called_upper x) })
 
 unfoldable pub flagged_in : Stage → Grains → LoadSecond → Stage
 flagged_in Blank before x = begun_in before x
 flagged_in Holding before x = begun_in before x
-flagged_in (Called class seconds ramp) before x = Called class (more seconds) ramp
+flagged_in (Called quick seconds ramp) before x = Called quick (more seconds) ramp
 flagged_in (Returning since ramp) before x = begun_in before x
 
 -- and at a second without: "for 900 seconds after any call under one hour"
 unfoldable pub unflagged_in : Stage → Stage
 unflagged_in Blank = Holding
 unflagged_in Holding = Holding
-unflagged_in (Called class seconds ramp) = cond (ltb seconds hour) (Returning 1 ramp) Holding
+unflagged_in (Called quick seconds ramp) = cond (ltb seconds hour) (Returning 1 ramp) Holding
 unflagged_in (Returning since ramp) = cond (ltb since quarter_hour) (Returning (since + 1) ramp) Holding
 
 unfoldable pub stage_in : AblaState → LoadSecond → Stage
@@ -101,24 +108,24 @@ stage_in s x = cond (flagged x) (flagged_in s.stage s.before x) (unflagged_in s.
 unfoldable pub blank_in : Stage → Bool
 blank_in Blank = true
 blank_in Holding = false
-blank_in (Called class seconds ramp) = false
+blank_in (Called quick seconds ramp) = false
 blank_in (Returning since ramp) = false
 
 unfoldable pub holding_in : Stage → Bool
 holding_in Blank = false
 holding_in Holding = true
-holding_in (Called class seconds ramp) = false
+holding_in (Called quick seconds ramp) = false
 holding_in (Returning since ramp) = false
 
 -- among "the first 900 seconds of a quick call"
-unfoldable pub first_in : ℕ → ℕ → Bool
-first_in class seconds = is_quick class && leb seconds quarter_hour
+unfoldable pub first_in : Bool → ℕ → Bool
+first_in quick seconds = quick && leb seconds quarter_hour
 
 -- the limits at second x in a stage, not widened
 unfoldable pub limits_in : Stage → LoadSecond → Limits
 limits_in Blank x = holding x
 limits_in Holding x = holding x
-limits_in (Called class seconds ramp) x = cond (first_in class seconds) ramp (called x)
+limits_in (Called quick seconds ramp) x = cond (first_in quick seconds) ramp (called x)
 limits_in (Returning since ramp) x = ramp
 
 -- "no call and no return ramp" at second x
@@ -134,7 +141,7 @@ refusal_in s x = first (rules_in s x)
 unfoldable pub accepted_in : AblaState → LoadSecond → AblaStep
 accepted_in s x =
     record {
-      answer = Given (kw (setpoint_of x)) (published_of per_kw (limits_on x (limits_in (stage_in s x) x)));
+      answer = given_value (kw (setpoint_of x)) (published_of per_kw (limits_on x (limits_in (stage_in s x) x)));
       state = record { stage = stage_in s x; before = grains (lower_of x) };
     }
 
@@ -150,21 +157,17 @@ step_in s x = step_by (refusal_in s x) s (accepted_in s x)
 -- second x, after the past h
 unfoldable pub step_of : History → LoadSecond → AblaStep
 step_of h x =
-    step_by (refusal h x) (state_of h) (record { answer = Given (kw (setpoint_of x)) (band_at h x); state = state_of (x ∷ h) })
+    step_by (refusal h x) (state_of h) (record { answer = given_value (kw (setpoint_of x)) (band_at h x); state = state_of (x ∷ h) })
 
 -- ---- what a step ensures
 
--- 02's number, setpoint and band for each case of an answer: 0 with setpoint and band; a refusal's number, and 0 for the others
-abbrev pub number_in : AblaAnswer → ℕ
-number_in (Given s b) = 0
-number_in (Refused n) = n
-
-abbrev pub setpoint_in : AblaAnswer → ℤ
-setpoint_in (Given s b) = s.0
+-- 02's setpoint and band for each case of an answer; 0 of a refusal
+abbrev pub setpoint_in : Answer AblaValue → ℤ
+setpoint_in (Given v) = v.setpoint.0
 setpoint_in (Refused n) = pos 0
 
-abbrev pub band_in : AblaAnswer → Band
-band_in (Given s b) = b
+abbrev pub band_in : Answer AblaValue → Band
+band_in (Given v) = v.band
 band_in (Refused n) = record { low = kw (pos 0); high = kw (pos 0) }
 
 pub record GivenRange (s : Kw) (b : Band) : Type 0 where
@@ -176,7 +179,7 @@ pub record GivenRange (s : Kw) (b : Band) : Type 0 where
 pub record Stepped (s : AblaState) (x : LoadSecond) (r : AblaStep) : Type 0 where
   pub is : r ≡ step_in s x
   -- what callers need to go on
-  pub number : number_in r.answer ≡ refusal_in s x
-  pub given : {v : Kw} {b : Band} → r.answer ≡ Given v b → GivenRange v b
+  pub number : answer_number r.answer ≡ refusal_in s x
+  pub given : {v : AblaValue} → r.answer ≡ Given v → GivenRange v.setpoint v.band
   pub refused : {n : ℕ} → r.answer ≡ Refused n → n ≡ 0 → ⊥
   pub ready : Ready r.state

@@ -2,35 +2,25 @@
 ghost use Rattle.std.specs.Prelude.{◌≡◌};
 ghost use Rattle.std.specs.Int.{w32};
 ghost use Rattle.std.proofs.Common.{SFits};
-ghost use Rattle.numbers.specs.Bounds.{outside};
 ghost use Rattle.power.specs.Units.{in_grains};
 ghost use Rattle.power.specs.Inward.{published_of};
 ghost use Rattle.abla.specs.Band.{per_kw, fifth_of};
 
 use power::{Band, Grains, Kw, Limits, PerKw};
 
-const PER_KW: u32 = 5;
+const PER_KW: PerKw = PerKw(5);
 
 pub(crate) fn in_fifths(k: Kw) -> Grains
     ensures { result.0 ≡ in_grains per_kw k.0 }
 {
-    k.in_grains(PerKw(PER_KW))
+    k.in_grains(PER_KW)
 }
 
 // 0.2 times a power.
 pub(crate) fn fifth_of(k: Kw) -> Grains
     ensures { result.0 ≡ fifth_of k.0 }
 {
-    k.percent(20, PerKw(PER_KW))
-}
-
-pub(crate) fn is_outside(g: Grains, low: Grains, high: Grains) -> bool
-    ensures { result ≡ outside low.0 high.0 g.0 }
-{
-    if g.0 < low.0 {
-        return true;
-    }
-    high.0 < g.0
+    k.percent(20, PER_KW)
 }
 
 // The band in whole kW, rounded inward.
@@ -38,5 +28,5 @@ pub(crate) fn published(l: Limits) -> Band
     requires { SFits w32 (published_of per_kw l).low.0 × SFits w32 (published_of per_kw l).high.0 }
     ensures { result ≡ published_of per_kw l }
 {
-    l.published(PerKw(PER_KW))
+    l.published(PER_KW)
 }

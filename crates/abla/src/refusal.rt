@@ -1,103 +1,101 @@
 // When a load's second is turned down (02, W10): 31 for its fields, 32 for the working point, 33 for flag and setpoint.
 ghost use Rattle.std.specs.Prelude.{◌≡◌};
-ghost use Rattle.numbers.specs.Rules.{first};
-ghost use Rattle.abla.specs.Refusals.{nonzero, filled, fields_out, point_out, called_out, signal_out, load_rules};
-ghost use Rattle.abla.specs.State.{Fields};
+ghost use Rattle.refusals.specs.Refusals.{number_in};
+ghost use Rattle.abla.specs.Refusals.{nonzero, filled, fields_out, point_out, signal_out};
+ghost use Rattle.abla.specs.State.{Fields, blank_in, holds_in, refusal_in};
 
-use crate::fifths::{in_fifths, is_outside};
+use crate::AblaState;
+use crate::fifths::in_fifths;
 use crate::load::LoadSecond;
+use crate::stage::Stage;
 use power::{Kw, MOST_RESERVE};
+use refusals::Refusal;
 
 // The largest minimum consumption and working point in kW, either way.
 pub const MOST_POWER: i32 = 4_000_000;
 
+#[tactic(auto, unfolding(numbers::specs::Bounds::outside))]
 pub fn is_nonzero(k: Kw) -> bool
     ensures { result ≡ nonzero k.0 }
 {
-    k.is_outside(Kw(0), Kw(0))
+    k != Kw(0)
 }
 
-// A field other than the awarded power is not 0.
-fn is_filled(x: LoadSecond) -> bool
-    ensures { result ≡ filled x }
-{
-    if is_nonzero(x.minimum) {
-        return true;
+impl LoadSecond {
+    // A field other than the awarded power is not 0.
+    #[tactic(auto, unfolding(crate::specs::Refusals::filled))]
+    fn is_filled(self) -> bool
+        ensures { result ≡ filled self }
+    {
+        is_nonzero(self.minimum) || self.class != 0 || self.flag != 0 || is_nonzero(self.setpoint)
     }
-    if x.class != 0 {
-        return true;
+
+    #[tactic(auto, unfolding(crate::specs::Refusals::fields_out))]
+    fn are_fields_out(self) -> bool
+        ensures { result ≡ fields_out self }
+    {
+        self.awarded.is_outside(Kw(0), Kw(MOST_RESERVE))
+            || self.minimum.is_outside(Kw(-MOST_POWER), Kw(MOST_POWER))
+            || 1 < self.class
+            || 1 < self.flag
+            || (!self.is_on() && self.is_filled())
     }
-    if x.flag != 0 {
-        return true;
+
+    // The working point of a load that is on and holds lies outside holding's band.
+    #[tactic(auto, unfolding(crate::specs::Refusals::point_out, numbers::specs::Bounds::outside))]
+    fn is_point_out(self, holding: bool) -> bool
+        requires { Fields self }
+        ensures { result ≡ point_out holding self }
+    {
+        let working = in_fifths(self.working);
+        self.is_on()
+            && holding
+            && (working < self.lowest_point() || in_fifths(self.minimum) < working)
     }
-    is_nonzero(x.setpoint)
+
+    #[tactic(auto, unfolding(crate::specs::Refusals::signal_out, crate::specs::Refusals::called_out))]
+    fn is_signal_out(self, blank: bool) -> bool
+        ensures { result ≡ signal_out blank self }
+    {
+        if self.is_flagged() {
+            blank || self.setpoint.is_outside(Kw(0), Kw(MOST_RESERVE))
+        } else {
+            is_nonzero(self.setpoint)
+        }
+    }
 }
 
-fn fields_out(x: LoadSecond) -> bool
-    ensures { result ≡ fields_out x }
-{
-    if x.awarded.is_outside(Kw(0), Kw(MOST_RESERVE)) {
-        return true;
+impl AblaState {
+    // No second was accepted yet.
+    #[tactic(auto, unfolding(crate::specs::State::blank_in))]
+    fn is_blank(self) -> bool
+        ensures { result ≡ blank_in self.stage }
+    {
+        matches!(self.stage, Stage::Blank)
     }
-    if x.minimum.is_outside(Kw(-MOST_POWER), Kw(MOST_POWER)) {
-        return true;
-    }
-    if 1 < x.class {
-        return true;
-    }
-    if 1 < x.flag {
-        return true;
-    }
-    if x.is_on() {
-        return false;
-    }
-    is_filled(x)
-}
 
-// The working point of a load that is on and holds lies outside holding's band.
-fn point_out(holding: bool, x: LoadSecond) -> bool
-    requires { Fields x }
-    ensures { result ≡ point_out holding x }
-{
-    if !x.is_on() {
-        return false;
+    // In second `x` there is no call and no return ramp.
+    #[tactic(auto, unfolding(crate::specs::State::holds_in))]
+    fn is_holding(self, x: LoadSecond) -> bool
+        ensures { result ≡ holds_in self x }
+    {
+        !x.is_flagged() && self.stage.unflagged().is_holding()
     }
-    if !holding {
-        return false;
-    }
-    is_outside(in_fifths(x.working), x.lowest_point(), in_fifths(x.minimum))
-}
 
-fn called_out(blank: bool, s: Kw) -> bool
-    ensures { result ≡ called_out blank s.0 }
-{
-    if blank {
-        return true;
+    // The first rule that turns second `x` down.
+    #[tactic(auto, unfolding(crate::specs::State::refusal_in, crate::specs::Refusals::load_rules))]
+    pub(crate) fn check(self, x: LoadSecond) -> Result<(), Refusal>
+        ensures { number_in result ≡ refusal_in self x }
+    {
+        if x.are_fields_out() {
+            return Err(Refusal::LoadFields);
+        }
+        if x.is_point_out(self.is_holding(x)) {
+            return Err(Refusal::LoadPoint);
+        }
+        if x.is_signal_out(self.is_blank()) {
+            return Err(Refusal::LoadSignal);
+        }
+        Ok(())
     }
-    s.is_outside(Kw(0), Kw(MOST_RESERVE))
-}
-
-fn signal_out(blank: bool, x: LoadSecond) -> bool
-    ensures { result ≡ signal_out blank x }
-{
-    if x.is_flagged() {
-        return called_out(blank, x.setpoint);
-    }
-    is_nonzero(x.setpoint)
-}
-
-// The number of the first rule that turns the second down, or 0.
-pub(crate) fn refusal_of(blank: bool, holding: bool, x: LoadSecond) -> u8
-    ensures { result ≡ first (load_rules blank holding x) }
-{
-    if fields_out(x) {
-        return 31;
-    }
-    if point_out(holding, x) {
-        return 32;
-    }
-    if signal_out(blank, x) {
-        return 33;
-    }
-    0
 }

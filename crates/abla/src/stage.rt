@@ -1,13 +1,10 @@
 // The stage that a load is in (02, W10): holding, called, or in the return ramp after a call.
 ghost use Rattle.std.specs.Prelude.{◌≡◌};
 ghost use Rattle.abla.specs.declared.stage.Stage.TheVariants.{Called};
-ghost use Rattle.abla.specs.State.{Fair, more, first_in, begun_in, flagged_in, unflagged_in, holding_in, limits_in};
+ghost use Rattle.abla.specs.State.{more, begun_in, flagged_in, unflagged_in, holding_in, limits_in};
 
-use crate::load::LoadSecond;
+use crate::load::FairSecond;
 use power::{Grains, Limits};
-
-// The class of a quick call.
-const QUICK: u8 = 1;
 
 // The seconds of either ramp.
 const QUARTER_HOUR: u32 = 900;
@@ -16,14 +13,14 @@ const QUARTER_HOUR: u32 = 900;
 const HOUR: u32 = 3600;
 
 // The stage of the newest second. Times are relative to it, so that they stay as they are when seconds are counted anew.
-#[derive(Clone, Copy)]
+#[derive(Clone, Copy, Debug, PartialEq, Eq)]
 pub enum Stage {
     // No second was accepted yet.
     Blank,
     Holding,
     Called {
-        // That of the call's first second.
-        class: u8,
+        // By the class of the call's first second.
+        quick: bool,
         // The call's set flags so far, counted up to one hour.
         seconds: u32,
         // The limits of both ramps.
@@ -37,6 +34,7 @@ pub enum Stage {
 }
 
 // One more second of a call.
+#[tactic(auto, unfolding(crate::specs::State::more))]
 fn one_more(n: u32) -> u32
     ensures { result ≡ more n }
 {
@@ -44,126 +42,85 @@ fn one_more(n: u32) -> u32
 }
 
 // The call that this second goes on with.
-fn longer(class: u8, seconds: u32, ramp: Limits) -> Stage
-    ensures { result ≡ Called class (more seconds) ramp }
+fn longer(quick: bool, seconds: u32, ramp: Limits) -> Stage
+    ensures { result ≡ Called quick (more seconds) ramp }
 {
     Stage::Called {
-        class,
+        quick,
         seconds: one_more(seconds),
         ramp,
     }
 }
 
-// Second `seconds` of a call is one of the first 900 of a quick one.
-fn is_first(class: u8, seconds: u32) -> bool
-    ensures { result ≡ first_in class seconds }
-{
-    if class != QUICK {
-        return false;
-    }
-    seconds <= QUARTER_HOUR
-}
-
 // A call that begins in this second, `before` being holding's lower limit in the second before.
-fn begun(before: Grains, x: LoadSecond) -> Stage
-    requires { Fair x }
-    ensures { result ≡ begun_in before x }
+#[tactic(auto, unfolding(crate::specs::State::begun_in))]
+fn begun(before: Grains, x: FairSecond) -> Stage
+    ensures { result ≡ begun_in before x.second }
 {
-    let ramp = Limits {
-        lower: before,
-        upper: x.called_upper(),
-    };
     Stage::Called {
-        class: x.class,
+        quick: x.second.is_quick(),
         seconds: 1,
-        ramp,
+        ramp: Limits {
+            lower: before,
+            upper: x.called_upper(),
+        },
     }
 }
 
 impl Stage {
+    #[tactic(auto, unfolding(crate::specs::State::holding_in))]
     pub(crate) fn is_holding(self) -> bool
         ensures { result ≡ holding_in self }
     {
-        match self {
-            Stage::Blank => false,
-            Stage::Holding => true,
-            Stage::Called {
-                class: _,
-                seconds: _,
-                ramp: _,
-            } => false,
-            Stage::Returning { since: _, ramp: _ } => false,
-        }
+        matches!(self, Stage::Holding)
     }
 
     // The stage at the next second, which has a set flag.
-    pub(crate) fn flagged(self, before: Grains, x: LoadSecond) -> Stage
-        requires { Fair x }
-        ensures { result ≡ flagged_in self before x }
+    #[tactic(auto, unfolding(crate::specs::State::flagged_in))]
+    pub(crate) fn flagged(self, before: Grains, x: FairSecond) -> Stage
+        ensures { result ≡ flagged_in self before x.second }
     {
         match self {
-            Stage::Blank => begun(before, x),
-            Stage::Holding => begun(before, x),
             Stage::Called {
-                class,
+                quick,
                 seconds,
                 ramp,
-            } => longer(class, seconds, ramp),
-            Stage::Returning { since: _, ramp: _ } => begun(before, x),
+            } => longer(quick, seconds, ramp),
+            Stage::Blank | Stage::Holding | Stage::Returning { .. } => begun(before, x),
         }
     }
 
     // The stage at the next second, which has none.
+    #[tactic(auto, unfolding(crate::specs::State::unflagged_in))]
     pub(crate) fn unflagged(self) -> Stage
         ensures { result ≡ unflagged_in self }
     {
         match self {
-            Stage::Blank => Stage::Holding,
-            Stage::Holding => Stage::Holding,
-            Stage::Called {
-                class: _,
-                seconds,
+            Stage::Called { seconds, ramp, .. } if seconds < HOUR => {
+                Stage::Returning { since: 1, ramp }
+            }
+            Stage::Returning { since, ramp } if since < QUARTER_HOUR => Stage::Returning {
+                since: since + 1,
                 ramp,
-            } => {
-                if seconds < HOUR {
-                    Stage::Returning { since: 1, ramp }
-                } else {
-                    Stage::Holding
-                }
-            }
-            Stage::Returning { since, ramp } => {
-                if since < QUARTER_HOUR {
-                    Stage::Returning {
-                        since: since + 1,
-                        ramp,
-                    }
-                } else {
-                    Stage::Holding
-                }
-            }
+            },
+            _ => Stage::Holding,
         }
     }
 
     // The limits at second `x`, which is in this stage.
-    pub(crate) fn limits(self, x: LoadSecond) -> Limits
-        requires { Fair x }
-        ensures { result ≡ limits_in self x }
+    #[tactic(auto, unfolding(crate::specs::State::limits_in, crate::specs::State::first_in))]
+    pub(crate) fn limits(self, x: FairSecond) -> Limits
+        ensures { result ≡ limits_in self x.second }
     {
         match self {
-            Stage::Blank => x.holding(),
-            Stage::Holding => x.holding(),
+            Stage::Blank | Stage::Holding => x.holding(),
             Stage::Called {
-                class,
+                quick,
                 seconds,
                 ramp,
-            } => {
-                if is_first(class, seconds) {
-                    ramp
-                } else {
-                    x.called()
-                }
-            }
-            Stage::Returning { since: _, ramp } => ramp,
+            } if quick && seconds <= QUARTER_HOUR => ramp,
+            Stage::Called { .. } => x.called(),
+            Stage::Returning { ramp, .. } => ramp,
         }
     }
 }
