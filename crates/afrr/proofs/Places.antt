@@ -1,17 +1,17 @@
--- The place where a number last stood in the window of the gradient, as a loop looks for it. Assumes nothing.
-use mathlib.Core.Path.{◌≡◌, refl, ap, ◌∙◌}
-use mathlib.Core.Bool.{true, false}
-use mathlib.Core.List.{List, []}
-use Prim.Native.Nat.{ℕ, zero, suc, ◌+◌, ◌-◌, ◌<◌, ◌≤◌}
-use native.Mathlib.Omega.{arith}
-use lib.IntN.{ℤ, pos}
-use lib.ListN.{drop, drop_of_length-le}
+-- The place where a number last stood. Assumes nothing.
+use Rattle.std.proofs.Common.{◌≡◌, ℕ, zero, suc, ◌+◌, ◌-◌, ◌≤◌, ltb, Bool, true, false, cond, List, [], length, ℤ, pos, Option, Some, None, is_eq, int_cmp, refl, sym, ap, ◌∙◌, arith}
+use Rattle.std.specs.List.{position_or_len}
+use Rattle.std.specs.Option.{unwrap_or}
+use Rattle.std.proofs.lemmas.List.Recursion.{is_position_or_len}
+use Rattle.std.proofs.lemmas.List.Sums.{prefix_len-le-length}
+use mathlib.Core.Bool.{not}
+use borrow.Author.Tests.{ltb-false}
+use Rattle.numbers.proofs.Compared.{cmp_eq}
 use Rattle.power.specs.declared.kilowatts.Kw.{Kw}
-use Rattle.power.specs.Past.{at, newest}
-use Rattle.sheet.specs.Sheet.{window}
+use Rattle.power.specs.Past.{newest}
 use Rattle.afrr.specs.Band.{ago}
 use Rattle.afrr.specs.State.{is_at, place_of}
-use Rattle.afrr.proofs.Windows.{length_newest, ago_none, there}
+use Rattle.afrr.proofs.Windows.{ago_none}
 
 -- a past with no second has zeros at every place
 pub place_none : (a b : ℕ) → place_of (pos 0) (ago a b []) ≡ 0
@@ -22,34 +22,26 @@ place_none a b = ap (place_of (pos 0)) (ago_none a b) ∙ go (b - (a - 1))
     go zero = refl
     go (suc n) = refl
 
--- in the window whose newest setpoint stands at the place `first` of the past
-module _ (first : ℕ) (v : ℤ) (p : List Kw) where
-  abbrev all : List Kw
-  all = drop first (newest window p)
+-- as the library's `position` finds it
+module _ (v : ℤ) (l : List Kw) where
+  abbrev pub test : Kw → Bool
+  test k = is_eq (int_cmp k.0 v)
 
-  -- it is not among the first i
-  abbrev pub Passed : ℕ → Type 0
-  Passed i = place_of v (all) ≡ i + place_of v (drop (i + first) (newest window p))
+  abbrev pub first : ℕ
+  first = position_or_len test l
 
-  pub none_passed : Passed 0
-  none_passed = let e : 0 + first ≡ first = omega arith in rw e (omega arith)
+  first_is : place_of v l ≡ first
+  unfolding place_of
+  first_is =
+      is_position_or_len (place_of v) test refl
+      (λ k ks. let e : suc (place_of v ks) ≡ 1 + place_of v ks = omega arith in λ i. cond (sym (cmp_eq k.0 v) i) 0 (e i))
+      l
 
-  module _ (i : ℕ) (passed : Passed i) where
-    pub found : i + first < window → is_at v (at p (i + first)) ≡ true → i ≡ place_of v (all)
-    unfolding place_of
-    found h e =
-        let here : place_of v (drop (i + first) (newest window p)) ≡ 0 = rw (there window p (i + first) h, e) in
-        omega arith
-
-    pub one_more : i + first < window → is_at v (at p (i + first)) ≡ false → Passed (i + 1)
-    unfolding place_of
-    one_more h e =
-        let here : place_of v (drop (i + first) (newest window p)) ≡ suc (place_of v (drop (suc (i + first)) (newest window p))) = rw (there window p (i + first) h, e) in
-        let n : i + 1 + first ≡ suc (i + first) = omega arith in
-        rw n (omega arith)
-
-    pub nowhere : window ≤ i + first → i ≡ place_of v (all)
-    unfolding place_of
-    nowhere h =
-        let here : place_of v (drop (i + first) (newest window p)) ≡ 0 = rw (drop_of_length-le (newest window p) {i = i + first} (rw length_newest h)) in
-        omega arith
+  pub found : (r : Option ℕ) → r ≡ cond (ltb first (length l)) (Some first) None → unwrap_or r (length l) ≡ place_of v l
+  found r e = ap (λ (o : Option ℕ). unwrap_or o (length l)) e ∙ go (ltb first (length l)) refl ∙ sym first_is
+    where
+      go : (t : Bool) → ltb first (length l) ≡ t → unwrap_or (cond t (Some first) None) (length l) ≡ first
+      go true d = refl
+      go false d =
+          let most : first ≤ length l = prefix_len-le-length (λ (k : Kw). not (test k)) l in
+          omega (arith, ltb-false first (length l) d)

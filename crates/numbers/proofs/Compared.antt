@@ -27,21 +27,21 @@ module _ (a b : ℤ) where
       go false false true d e f = refl
       go false false false d e f = absurd (omega (arith, flags))
 
-  pub cmp_eq : is_eq (int_cmp a b) ≡ (le_z b a && le_z a b)
-  cmp_eq = go (lt_z a b) (lt_z b a) (le_z b a) (le_z a b) refl refl refl refl
+  pub cmp_eq : is_eq (int_cmp a b) ≡ (le_z a b && le_z b a)
+  cmp_eq = go (lt_z a b) (lt_z b a) (le_z a b) (le_z b a) refl refl refl refl
     where
       go :
           (t u v w : Bool) →
           lt_z a b ≡ t →
           lt_z b a ≡ u →
-          le_z b a ≡ v →
-          le_z a b ≡ w →
+          le_z a b ≡ v →
+          le_z b a ≡ w →
           is_eq (cond t Less (cond u Greater Equal)) ≡ (v && w)
-      go true u true w d e f g = absurd (omega (arith, flags))
+      go true u true true d e f g = absurd (omega (arith, flags))
+      go true u true false d e f g = refl
       go true u false w d e f g = refl
-      go false true true true d e f g = absurd (omega (arith, flags))
-      go false true true false d e f g = refl
-      go false true false w d e f g = absurd (omega (arith, flags))
+      go false true true w d e f g = absurd (omega (arith, flags))
+      go false true false w d e f g = refl
       go false false true true d e f g = refl
       go false false true false d e f g = absurd (omega (arith, flags))
       go false false false w d e f g = absurd (omega (arith, flags))
