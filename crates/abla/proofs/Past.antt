@@ -8,6 +8,7 @@ use borrow.Author.Tests.{lt-ltb, lt-leb, ltb-true, ltb-false, leb-true, leb-fals
 use lib.Dec.{leb, ltb}
 use Rattle.numbers.specs.Rules.{first}
 use Rattle.numbers.proofs.Rules.{both_true}
+use Rattle.std.proofs.lemmas.Bool.Decides.{nat_tests}
 use Rattle.refusals.specs.Refusals.{answer_number}
 use Rattle.power.specs.declared.limits.Limits.{Limits}
 use Rattle.power.specs.Units.{kw, grains}
@@ -23,64 +24,33 @@ use Rattle.abla.specs.State.{stage_of, state_of, more, begun_in, flagged_in, unf
 
 -- ---- counts up to one hour
 
-same_test : (t u : Bool) → (t ≡ true → u ≡ false → ⊥) → (t ≡ false → u ≡ true → ⊥) → t ≡ u
-same_test true true p q = refl
-same_test true false p q = absurd (p refl refl)
-same_test false true p q = absurd (q refl refl)
-same_test false false p q = refl
-
 more_min : (n : ℕ) → more (min n hour) ≡ min (n + 1) hour
 unfolding more
-more_min n = go (ltb (min n hour) hour) refl
-  where
-    go : (t : Bool) → ltb (min n hour) hour ≡ t → cond t (min n hour + 1) (min n hour) ≡ min (n + 1) hour
-    go true e = omega (arith, ltb-true (min n hour) hour e)
-    go false e = omega (arith, ltb-false (min n hour) hour e)
+more_min n = grind (arith, nat_tests)
 
 under : (n : ℕ) → ltb (min n hour) hour ≡ ltb n hour
-under n =
-    same_test (ltb (min n hour) hour) (ltb n hour)
-    (λ p q. omega (arith, ltb-true (min n hour) hour p, ltb-false n hour q))
-    (λ p q. omega (arith, ltb-false (min n hour) hour p, ltb-true n hour q))
+under n = grind (arith, nat_tests)
 
 within_first : (n : ℕ) → leb (min n hour) quarter_hour ≡ leb n quarter_hour
-within_first n =
-    same_test (leb (min n hour) quarter_hour) (leb n quarter_hour)
-    (λ p q. omega (arith, leb-true (min n hour) quarter_hour p, leb-false n quarter_hour q))
-    (λ p q. omega (arith, leb-false (min n hour) quarter_hour p, leb-true n quarter_hour q))
+within_first n = grind (arith, nat_tests)
 
 one_later : (k : ℕ) → leb (k + 1) quarter_hour ≡ ltb k quarter_hour
-one_later k =
-    same_test (leb (k + 1) quarter_hour) (ltb k quarter_hour)
-    (λ p q. omega (arith, leb-true (k + 1) quarter_hour p, ltb-false k quarter_hour q))
-    (λ p q. omega (arith, leb-false (k + 1) quarter_hour p, ltb-true k quarter_hour q))
+one_later k = grind (arith, nat_tests)
 
 -- ---- the return ramp, a second later
 
 module _ (c : Call) (k : ℕ) where
   ramp_on : in_return c k ≡ true → in_return c (k + 1) ≡ ltb k quarter_hour
   unfolding in_return
-  ramp_on e =
-      let a = both_true (ltb 0 c.seconds) _ e in
-      let b = both_true (ltb c.seconds hour) _ a.1 in
-      rw (a.0, b.0) (one_later k)
+  ramp_on e = grind (arith, nat_tests)
 
   ramp_over : in_return c k ≡ false → in_return c (k + 1) ≡ false
   unfolding in_return
-  ramp_over e = go (ltb 0 c.seconds) (ltb c.seconds hour) e
-    where
-      go : (a b : Bool) → (a && (b && leb k quarter_hour)) ≡ false → (a && (b && leb (k + 1) quarter_hour)) ≡ false
-      go true true q = lt-leb (k + 1) quarter_hour (omega (arith, leb-false k quarter_hour q))
-      go true false q = refl
-      go false b q = refl
+  ramp_over e = grind (arith, nat_tests)
 
   ramp_first : 0 < c.seconds → in_return c 1 ≡ ltb c.seconds hour
   unfolding in_return
-  ramp_first p = rw (lt-ltb 0 c.seconds p) (go (ltb c.seconds hour))
-    where
-      go : (b : Bool) → (b && true) ≡ b
-      go true = refl
-      go false = refl
+  ramp_first p = grind (arith, nat_tests)
 
 -- ---- the stage, a second later
 
@@ -109,27 +79,14 @@ longer_stage : (c : Call) (h : History) (x : LoadSecond) → flagged_in (in_call
 unfolding flagged_in longer ramp_of
 longer_stage c h x = rw (more_min c.seconds)
 
-fresh_blank : (h : History) (x : LoadSecond) → flagged_in Blank (grains (lower_before h)) x ≡ begun_in (grains (lower_before h)) x
-unfolding flagged_in
-fresh_blank h x = refl
-
-fresh_call : (b : Bool) (k : ℕ) (r : Limits) (h : History) (x : LoadSecond) → flagged_in (cond b (Returning k r) Holding) (grains (lower_before h)) x ≡ begun_in (grains (lower_before h)) x
-unfolding flagged_in
-fresh_call true k r h x = refl
-fresh_call false k r h x = refl
-
 with_flag : (h : History) (x : LoadSecond) → flagged x ≡ true → flagged_in (stage_of h) (grains (lower_before h)) x ≡ stage_of (x ∷ h)
-unfolding stage_of flagged_last
-with_flag [] x f = rw (in_call_lem x [] f, begins x [] f refl, fresh_blank [] x) (begun_stage [] x)
-with_flag (y ∷ h) x f = go (flagged y) refl
-  where
-    go : (b : Bool) → flagged y ≡ b → flagged_in (stage_of (y ∷ h)) (grains (lower_before (y ∷ h))) x ≡ stage_of (x ∷ (y ∷ h))
-    go true q =
-        rw (in_call_lem y h q, in_call_lem x (y ∷ h) f, goes_on x (y ∷ h) f (last_is y h ∙ q))
-        (longer_stage (latest (y ∷ h)) (y ∷ h) x)
-    go false q =
-        rw (no_call_lem y h q, fresh_call (returning (y ∷ h)), in_call_lem x (y ∷ h) f, begins x (y ∷ h) f (last_is y h ∙ q))
-        (begun_stage (y ∷ h) x)
+unfolding stage_of flagged_last flagged_in begun_in latest begun ramp_of
+with_flag [] x f = grind arith
+with_flag (y ∷ h) x f =
+    let longer_is = longer_stage (latest (y ∷ h)) (y ∷ h) x in
+    let on = goes_on x (y ∷ h) f in
+    let anew = begins x (y ∷ h) f in
+    grind arith
 
 -- where the newest second has no flag
 abbrev in_ramp : Call → ℕ → Stage
