@@ -1,22 +1,20 @@
 -- A step from the state after a past gives what the past gives. Assumes nothing.
-use mathlib.Core.Path.{◌≡◌, refl, ap, ◌∙◌}
-use mathlib.Core.Bool.{Bool, true, false, not, cond, ◌&&◌}
+use mathlib.Core.Path.{◌≡◌, refl, ap}
+use mathlib.Core.Bool.{Bool, true, false, not, cond}
 use mathlib.Core.List.{[], ◌∷◌}
 use Prim.Native.Nat.{ℕ, zero, suc, ◌+◌, ◌<◌, min}
 use native.Mathlib.Omega.{arith}
-use borrow.Author.Tests.{lt-ltb, lt-leb, ltb-true, ltb-false, leb-true, leb-false}
 use lib.Dec.{leb, ltb}
 use Rattle.numbers.specs.Rules.{first}
-use Rattle.numbers.proofs.Rules.{both_true}
 use Rattle.std.proofs.lemmas.Bool.Decides.{nat_tests}
 use Rattle.refusals.specs.Refusals.{answer_number}
 use Rattle.power.specs.declared.limits.Limits.{Limits}
 use Rattle.power.specs.Units.{kw, grains}
 use Rattle.abla.specs.declared.load.LoadSecond.{LoadSecond}
 use Rattle.abla.specs.declared.stage.Stage.{Stage}
-use Rattle.abla.specs.declared.stage.Stage.TheVariants.{Blank, Holding, Called, Returning}
+use Rattle.abla.specs.declared.stage.Stage.TheVariants.{Holding, Called, Returning}
 use Rattle.abla.specs.Calls.{History, flagged, is_quick, flagged_last, Call, no_call, begun, longer, latest, since, quarter_hour, hour, in_first, in_return}
-use Rattle.abla.proofs.Runs.{goes_on, begins, none_since, stays, one_since, some}
+use Rattle.abla.proofs.Runs.{goes_on, begins, some}
 use Rattle.abla.specs.Band.{setpoint_of, called, lower_of, lower_before, ramp_of, returning, holds, stage_limits, limits_at, band_at}
 use Rattle.abla.specs.Band as bands
 use Rattle.abla.specs.Refusals.{is_blank, rules_at, refusal}
@@ -92,41 +90,24 @@ with_flag (y ∷ h) x f =
 abbrev in_ramp : Call → ℕ → Stage
 in_ramp c k = cond (in_return c k) (Returning k (ramp_of c)) Holding
 
-first_holds : unflagged_in Blank ≡ in_ramp (latest []) (since [] + 1)
-unfolding unflagged_in in_return latest no_call since
-first_holds = refl
-
-ended : (c : Call) (s : ℕ) → s ≡ 0 → 0 < c.seconds → unflagged_in (in_call c) ≡ in_ramp c (s + 1)
-unfolding unflagged_in
-ended c s z p = rw (z, under c.seconds, ramp_first c 0 p)
-
-ramps : (c : Call) (k : ℕ) (b : Bool) → in_return c k ≡ b → unflagged_in (cond b (Returning k (ramp_of c)) Holding) ≡ in_ramp c (k + 1)
-unfolding unflagged_in
-ramps c k true e = rw (ramp_on c k e)
-ramps c k false e = rw (ramp_over c k e)
-
-not_called : (x : LoadSecond) (h : History) → flagged x ≡ false → stage_of (x ∷ h) ≡ in_ramp (latest h) (since h + 1)
-unfolding returning
-not_called x h f = rw (no_call_lem x h f, stays x h f, one_since x h f)
-
 without_flag : (h : History) (x : LoadSecond) → flagged x ≡ false → unflagged_in (stage_of h) ≡ stage_of (x ∷ h)
-unfolding stage_of returning
-without_flag [] x f = rw (not_called x [] f) first_holds
-without_flag (y ∷ h) x f = rw (not_called x (y ∷ h) f) (go (flagged y) refl)
-  where
-    go : (b : Bool) → flagged y ≡ b → unflagged_in (stage_of (y ∷ h)) ≡ in_ramp (latest (y ∷ h)) (since (y ∷ h) + 1)
-    go true q =
-        rw (in_call_lem y h q) (ended (latest (y ∷ h)) (since (y ∷ h)) (none_since y h q) (some (y ∷ h) (last_is y h ∙ q)))
-    go false q = rw (no_call_lem y h q) (ramps (latest (y ∷ h)) (since (y ∷ h)) (in_return (latest (y ∷ h)) (since (y ∷ h))) refl)
+unfolding stage_of flagged_last returning unflagged_in in_return latest since no_call
+without_flag [] x f = grind (arith, nat_tests)
+without_flag (y ∷ h) x f =
+    let m = under (latest (y ∷ h)).seconds in
+    let s = some (y ∷ h) in
+    let on = ramp_on (latest (y ∷ h)) (since (y ∷ h)) in
+    let over = ramp_over (latest (y ∷ h)) (since (y ∷ h)) in
+    let first = ramp_first (latest (y ∷ h)) in
+    grind (arith, nat_tests)
 
 -- the stage of a second is that of the past with it
 pub same_stage : (h : History) (x : LoadSecond) → stage_in (state_of h) x ≡ stage_of (x ∷ h)
 unfolding stage_in state_of
-same_stage h x = go (flagged x) refl
-  where
-    go : (b : Bool) → flagged x ≡ b → cond b (flagged_in (stage_of h) (grains (lower_before h)) x) (unflagged_in (stage_of h)) ≡ stage_of (x ∷ h)
-    go true q = with_flag h x q
-    go false q = without_flag h x q
+same_stage h x =
+    let on = with_flag h x in
+    let off = without_flag h x in
+    grind arith
 
 -- ---- the number
 
@@ -148,11 +129,11 @@ holding_by false k r = refl
 
 holding : (h : History) (x : LoadSecond) → holds_in (state_of h) x ≡ holds h x
 unfolding holds_in holds state_of
-holding h x = go (flagged x) refl
-  where
-    go : (f : Bool) → flagged x ≡ f → (not f && holding_in (unflagged_in (stage_of h))) ≡ (not f && not (returning (x ∷ h)))
-    go true q = refl
-    go false q = rw (without_flag h x q, no_call_lem x h q) (holding_by (returning (x ∷ h)) _ _)
+holding h x =
+    let off = without_flag h x in
+    let e = no_call_lem x h in
+    let r = holding_by (returning (x ∷ h)) (since (x ∷ h)) (ramp_of (latest (x ∷ h))) in
+    grind arith
 
 pub rules : (h : History) (x : LoadSecond) → rules_in (state_of h) x ≡ rules_at h x
 rules h x = rw (holding h x, blank h)
@@ -174,17 +155,12 @@ returned false k r x = refl
 
 same_limits : (h : History) (x : LoadSecond) → limits_in (stage_of (x ∷ h)) x ≡ stage_limits h x
 unfolding stage_limits
-same_limits h x = go (flagged x) refl
-  where
-    go :
-        (f : Bool) →
-        flagged x ≡ f →
-        limits_in (stage_of (x ∷ h)) x
-        ≡ cond f
-        (cond (in_first (latest (x ∷ h))) (ramp_of (latest (x ∷ h))) (called x))
-        (cond (returning (x ∷ h)) (ramp_of (latest (x ∷ h))) (bands.holding x))
-    go true q = rw (in_call_lem x h q) (in_first_lem (latest (x ∷ h)) x)
-    go false q = rw (no_call_lem x h q) (returned (returning (x ∷ h)) _ _ x)
+same_limits h x =
+    let on = in_call_lem x h in
+    let off = no_call_lem x h in
+    let first = in_first_lem (latest (x ∷ h)) x in
+    let ramp = returned (returning (x ∷ h)) (since (x ∷ h)) (ramp_of (latest (x ∷ h))) x in
+    grind arith
 
 state_is : (h : History) (x : LoadSecond) → state_of (x ∷ h) ≡ record { stage = stage_of (x ∷ h); before = grains (lower_of x) }
 unfolding state_of lower_before
