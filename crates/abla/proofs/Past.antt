@@ -1,22 +1,20 @@
 -- A step from the state after a past gives what the past gives. Assumes nothing.
 use mathlib.Core.Path.{◌≡◌, refl, ap}
-use mathlib.Core.Bool.{Bool, true, false, not, cond}
+use mathlib.Core.Bool.{true, false, cond}
 use mathlib.Core.List.{[], ◌∷◌}
-use Prim.Native.Nat.{ℕ, zero, suc, ◌+◌, ◌<◌, min}
+use Prim.Native.Nat.{ℕ, zero, suc, ◌+◌, min}
 use native.Mathlib.Omega.{arith}
 use lib.Dec.{leb, ltb}
 use Rattle.numbers.specs.Rules.{first}
 use Rattle.std.proofs.lemmas.Bool.Decides.{nat_tests}
 use Rattle.refusals.specs.Refusals.{answer_number}
-use Rattle.power.specs.declared.limits.Limits.{Limits}
 use Rattle.power.specs.Units.{kw, grains}
 use Rattle.abla.specs.declared.load.LoadSecond.{LoadSecond}
 use Rattle.abla.specs.declared.stage.Stage.{Stage}
 use Rattle.abla.specs.declared.stage.Stage.TheVariants.{Holding, Called, Returning}
 use Rattle.abla.specs.Calls.{History, flagged, is_quick, flagged_last, Call, no_call, begun, longer, latest, since, quarter_hour, hour, in_first, in_return}
 use Rattle.abla.proofs.Runs.{goes_on, begins, some}
-use Rattle.abla.specs.Band.{setpoint_of, called, lower_of, lower_before, ramp_of, returning, holds, stage_limits, limits_at, band_at}
-use Rattle.abla.specs.Band as bands
+use Rattle.abla.specs.Band.{setpoint_of, lower_of, lower_before, ramp_of, returning, holds, stage_limits, limits_at, band_at}
 use Rattle.abla.specs.Refusals.{is_blank, rules_at, refusal}
 use Rattle.abla.specs.State.{stage_of, state_of, more, begun_in, flagged_in, unflagged_in, stage_in, blank_in, holding_in, first_in, limits_in, holds_in, rules_in, refusal_in, accepted_in, step_by, step_in, step_of, given_value, setpoint_in, band_in}
 
@@ -32,24 +30,6 @@ under n = grind (arith, nat_tests)
 within_first : (n : ℕ) → leb (min n hour) quarter_hour ≡ leb n quarter_hour
 within_first n = grind (arith, nat_tests)
 
-one_later : (k : ℕ) → leb (k + 1) quarter_hour ≡ ltb k quarter_hour
-one_later k = grind (arith, nat_tests)
-
--- ---- the return ramp, a second later
-
-module _ (c : Call) (k : ℕ) where
-  ramp_on : in_return c k ≡ true → in_return c (k + 1) ≡ ltb k quarter_hour
-  unfolding in_return
-  ramp_on e = grind (arith, nat_tests)
-
-  ramp_over : in_return c k ≡ false → in_return c (k + 1) ≡ false
-  unfolding in_return
-  ramp_over e = grind (arith, nat_tests)
-
-  ramp_first : 0 < c.seconds → in_return c 1 ≡ ltb c.seconds hour
-  unfolding in_return
-  ramp_first p = grind (arith, nat_tests)
-
 -- ---- the stage, a second later
 
 -- of a past whose newest second has a set flag, and of one whose newest second has none
@@ -61,17 +41,9 @@ no_call_lem : (x : LoadSecond) (h : History) → flagged x ≡ false → stage_o
 unfolding stage_of
 no_call_lem x h f = rw f
 
-last_is : (y : LoadSecond) (h : History) → flagged_last (y ∷ h) ≡ flagged y
-unfolding flagged_last
-last_is y h = refl
-
 -- the stage of a call that the newest second is in
 abbrev in_call : Call → Stage
 in_call c = Called (is_quick c.first.class) (min c.seconds hour) (ramp_of c)
-
-begun_stage : (h : History) (x : LoadSecond) → begun_in (grains (lower_before h)) x ≡ in_call (begun x h)
-unfolding begun_in ramp_of begun
-begun_stage h x = refl
 
 longer_stage : (c : Call) (h : History) (x : LoadSecond) → flagged_in (in_call c) (grains (lower_before h)) x ≡ in_call (longer c)
 unfolding flagged_in longer ramp_of
@@ -86,19 +58,12 @@ with_flag (y ∷ h) x f =
     let anew = begins x (y ∷ h) f in
     grind arith
 
--- where the newest second has no flag
-abbrev in_ramp : Call → ℕ → Stage
-in_ramp c k = cond (in_return c k) (Returning k (ramp_of c)) Holding
-
 without_flag : (h : History) (x : LoadSecond) → flagged x ≡ false → unflagged_in (stage_of h) ≡ stage_of (x ∷ h)
 unfolding stage_of flagged_last returning unflagged_in in_return latest since no_call
 without_flag [] x f = grind (arith, nat_tests)
 without_flag (y ∷ h) x f =
     let m = under (latest (y ∷ h)).seconds in
     let s = some (y ∷ h) in
-    let on = ramp_on (latest (y ∷ h)) (since (y ∷ h)) in
-    let over = ramp_over (latest (y ∷ h)) (since (y ∷ h)) in
-    let first = ramp_first (latest (y ∷ h)) in
     grind (arith, nat_tests)
 
 -- the stage of a second is that of the past with it
@@ -111,28 +76,16 @@ same_stage h x =
 
 -- ---- the number
 
-blank_by : (a b : Bool) (c : Call) (k : ℕ) (r : Limits) → blank_in (cond a (in_call c) (cond b (Returning k r) Holding)) ≡ false
-unfolding blank_in
-blank_by true b c k r = refl
-blank_by false true c k r = refl
-blank_by false false c k r = refl
-
 blank : (h : History) → blank_in (state_of h).stage ≡ is_blank h
 unfolding state_of stage_of blank_in is_blank
 blank [] = refl
-blank (x ∷ h) = blank_by (flagged x) (returning (x ∷ h)) (latest (x ∷ h)) _ _
-
-holding_by : (b : Bool) (k : ℕ) (r : Limits) → holding_in (cond b (Returning k r) Holding) ≡ not b
-unfolding holding_in
-holding_by true k r = refl
-holding_by false k r = refl
+blank (x ∷ h) = grind arith
 
 holding : (h : History) (x : LoadSecond) → holds_in (state_of h) x ≡ holds h x
-unfolding holds_in holds state_of
+unfolding holds_in holds state_of holding_in
 holding h x =
     let off = without_flag h x in
     let e = no_call_lem x h in
-    let r = holding_by (returning (x ∷ h)) (since (x ∷ h)) (ramp_of (latest (x ∷ h))) in
     grind arith
 
 pub rules : (h : History) (x : LoadSecond) → rules_in (state_of h) x ≡ rules_at h x
@@ -144,22 +97,10 @@ same_number h x = ap first (rules h x)
 
 -- ---- what it gives
 
-in_first_lem : (c : Call) (x : LoadSecond) → limits_in (in_call c) x ≡ cond (in_first c) (ramp_of c) (called x)
-unfolding limits_in first_in in_first
-in_first_lem c x = rw (within_first c.seconds)
-
-returned : (b : Bool) (k : ℕ) (r : Limits) (x : LoadSecond) → limits_in (cond b (Returning k r) Holding) x ≡ cond b r (bands.holding x)
-unfolding limits_in
-returned true k r x = refl
-returned false k r x = refl
-
 same_limits : (h : History) (x : LoadSecond) → limits_in (stage_of (x ∷ h)) x ≡ stage_limits h x
-unfolding stage_limits
+unfolding stage_limits stage_of limits_in first_in in_first
 same_limits h x =
-    let on = in_call_lem x h in
-    let off = no_call_lem x h in
-    let first = in_first_lem (latest (x ∷ h)) x in
-    let ramp = returned (returning (x ∷ h)) (since (x ∷ h)) (ramp_of (latest (x ∷ h))) x in
+    let first = within_first (latest (x ∷ h)).seconds in
     grind arith
 
 state_is : (h : History) (x : LoadSecond) → state_of (x ∷ h) ≡ record { stage = stage_of (x ∷ h); before = grains (lower_of x) }
