@@ -1,86 +1,34 @@
 -- A step from the state after a past gives what the past gives. Assumes nothing.
-use mathlib.Core.Path.{◌≡◌, refl, ap, ◌∙◌}
-use mathlib.Core.Bool.{Bool, true, false, not, cond, ◌&&◌}
+use mathlib.Core.Path.{◌≡◌, refl, ap}
+use mathlib.Core.Bool.{true, false, cond}
 use mathlib.Core.List.{[], ◌∷◌}
-use Prim.Native.Nat.{ℕ, zero, suc, ◌+◌, ◌<◌, min}
+use Prim.Native.Nat.{ℕ, zero, suc, ◌+◌, min}
 use native.Mathlib.Omega.{arith}
-use borrow.Author.Tests.{lt-ltb, lt-leb, ltb-true, ltb-false, leb-true, leb-false}
 use lib.Dec.{leb, ltb}
 use Rattle.numbers.specs.Rules.{first}
-use Rattle.numbers.proofs.Rules.{both_true}
+use Rattle.std.proofs.lemmas.Bool.Decides.{nat_tests}
 use Rattle.refusals.specs.Refusals.{answer_number}
-use Rattle.power.specs.declared.limits.Limits.{Limits}
 use Rattle.power.specs.Units.{kw, grains}
 use Rattle.abla.specs.declared.load.LoadSecond.{LoadSecond}
 use Rattle.abla.specs.declared.stage.Stage.{Stage}
-use Rattle.abla.specs.declared.stage.Stage.TheVariants.{Blank, Holding, Called, Returning}
+use Rattle.abla.specs.declared.stage.Stage.TheVariants.{Holding, Called, Returning}
 use Rattle.abla.specs.Calls.{History, flagged, is_quick, flagged_last, Call, no_call, begun, longer, latest, since, quarter_hour, hour, in_first, in_return}
-use Rattle.abla.proofs.Runs.{goes_on, begins, none_since, stays, one_since, some}
-use Rattle.abla.specs.Band.{setpoint_of, called, lower_of, lower_before, ramp_of, returning, holds, stage_limits, limits_at, band_at}
-use Rattle.abla.specs.Band as bands
+use Rattle.abla.proofs.Runs.{goes_on, begins, some}
+use Rattle.abla.specs.Band.{setpoint_of, lower_of, lower_before, ramp_of, returning, holds, stage_limits, limits_at, band_at}
 use Rattle.abla.specs.Refusals.{is_blank, rules_at, refusal}
 use Rattle.abla.specs.State.{stage_of, state_of, more, begun_in, flagged_in, unflagged_in, stage_in, blank_in, holding_in, first_in, limits_in, holds_in, rules_in, refusal_in, accepted_in, step_by, step_in, step_of, given_value, setpoint_in, band_in}
 
 -- ---- counts up to one hour
 
-same_test : (t u : Bool) → (t ≡ true → u ≡ false → ⊥) → (t ≡ false → u ≡ true → ⊥) → t ≡ u
-same_test true true p q = refl
-same_test true false p q = absurd (p refl refl)
-same_test false true p q = absurd (q refl refl)
-same_test false false p q = refl
-
 more_min : (n : ℕ) → more (min n hour) ≡ min (n + 1) hour
 unfolding more
-more_min n = go (ltb (min n hour) hour) refl
-  where
-    go : (t : Bool) → ltb (min n hour) hour ≡ t → cond t (min n hour + 1) (min n hour) ≡ min (n + 1) hour
-    go true e = omega (arith, ltb-true (min n hour) hour e)
-    go false e = omega (arith, ltb-false (min n hour) hour e)
+more_min n = grind (arith, nat_tests)
 
 under : (n : ℕ) → ltb (min n hour) hour ≡ ltb n hour
-under n =
-    same_test (ltb (min n hour) hour) (ltb n hour)
-    (λ p q. omega (arith, ltb-true (min n hour) hour p, ltb-false n hour q))
-    (λ p q. omega (arith, ltb-false (min n hour) hour p, ltb-true n hour q))
+under n = grind (arith, nat_tests)
 
 within_first : (n : ℕ) → leb (min n hour) quarter_hour ≡ leb n quarter_hour
-within_first n =
-    same_test (leb (min n hour) quarter_hour) (leb n quarter_hour)
-    (λ p q. omega (arith, leb-true (min n hour) quarter_hour p, leb-false n quarter_hour q))
-    (λ p q. omega (arith, leb-false (min n hour) quarter_hour p, leb-true n quarter_hour q))
-
-one_later : (k : ℕ) → leb (k + 1) quarter_hour ≡ ltb k quarter_hour
-one_later k =
-    same_test (leb (k + 1) quarter_hour) (ltb k quarter_hour)
-    (λ p q. omega (arith, leb-true (k + 1) quarter_hour p, ltb-false k quarter_hour q))
-    (λ p q. omega (arith, leb-false (k + 1) quarter_hour p, ltb-true k quarter_hour q))
-
--- ---- the return ramp, a second later
-
-module _ (c : Call) (k : ℕ) where
-  ramp_on : in_return c k ≡ true → in_return c (k + 1) ≡ ltb k quarter_hour
-  unfolding in_return
-  ramp_on e =
-      let a = both_true (ltb 0 c.seconds) _ e in
-      let b = both_true (ltb c.seconds hour) _ a.1 in
-      rw (a.0, b.0) (one_later k)
-
-  ramp_over : in_return c k ≡ false → in_return c (k + 1) ≡ false
-  unfolding in_return
-  ramp_over e = go (ltb 0 c.seconds) (ltb c.seconds hour) e
-    where
-      go : (a b : Bool) → (a && (b && leb k quarter_hour)) ≡ false → (a && (b && leb (k + 1) quarter_hour)) ≡ false
-      go true true q = lt-leb (k + 1) quarter_hour (omega (arith, leb-false k quarter_hour q))
-      go true false q = refl
-      go false b q = refl
-
-  ramp_first : 0 < c.seconds → in_return c 1 ≡ ltb c.seconds hour
-  unfolding in_return
-  ramp_first p = rw (lt-ltb 0 c.seconds p) (go (ltb c.seconds hour))
-    where
-      go : (b : Bool) → (b && true) ≡ b
-      go true = refl
-      go false = refl
+within_first n = grind (arith, nat_tests)
 
 -- ---- the stage, a second later
 
@@ -93,109 +41,52 @@ no_call_lem : (x : LoadSecond) (h : History) → flagged x ≡ false → stage_o
 unfolding stage_of
 no_call_lem x h f = rw f
 
-last_is : (y : LoadSecond) (h : History) → flagged_last (y ∷ h) ≡ flagged y
-unfolding flagged_last
-last_is y h = refl
-
 -- the stage of a call that the newest second is in
 abbrev in_call : Call → Stage
 in_call c = Called (is_quick c.first.class) (min c.seconds hour) (ramp_of c)
-
-begun_stage : (h : History) (x : LoadSecond) → begun_in (grains (lower_before h)) x ≡ in_call (begun x h)
-unfolding begun_in ramp_of begun
-begun_stage h x = refl
 
 longer_stage : (c : Call) (h : History) (x : LoadSecond) → flagged_in (in_call c) (grains (lower_before h)) x ≡ in_call (longer c)
 unfolding flagged_in longer ramp_of
 longer_stage c h x = rw (more_min c.seconds)
 
-fresh_blank : (h : History) (x : LoadSecond) → flagged_in Blank (grains (lower_before h)) x ≡ begun_in (grains (lower_before h)) x
-unfolding flagged_in
-fresh_blank h x = refl
-
-fresh_call : (b : Bool) (k : ℕ) (r : Limits) (h : History) (x : LoadSecond) → flagged_in (cond b (Returning k r) Holding) (grains (lower_before h)) x ≡ begun_in (grains (lower_before h)) x
-unfolding flagged_in
-fresh_call true k r h x = refl
-fresh_call false k r h x = refl
-
 with_flag : (h : History) (x : LoadSecond) → flagged x ≡ true → flagged_in (stage_of h) (grains (lower_before h)) x ≡ stage_of (x ∷ h)
-unfolding stage_of flagged_last
-with_flag [] x f = rw (in_call_lem x [] f, begins x [] f refl, fresh_blank [] x) (begun_stage [] x)
-with_flag (y ∷ h) x f = go (flagged y) refl
-  where
-    go : (b : Bool) → flagged y ≡ b → flagged_in (stage_of (y ∷ h)) (grains (lower_before (y ∷ h))) x ≡ stage_of (x ∷ (y ∷ h))
-    go true q =
-        rw (in_call_lem y h q, in_call_lem x (y ∷ h) f, goes_on x (y ∷ h) f (last_is y h ∙ q))
-        (longer_stage (latest (y ∷ h)) (y ∷ h) x)
-    go false q =
-        rw (no_call_lem y h q, fresh_call (returning (y ∷ h)), in_call_lem x (y ∷ h) f, begins x (y ∷ h) f (last_is y h ∙ q))
-        (begun_stage (y ∷ h) x)
-
--- where the newest second has no flag
-abbrev in_ramp : Call → ℕ → Stage
-in_ramp c k = cond (in_return c k) (Returning k (ramp_of c)) Holding
-
-first_holds : unflagged_in Blank ≡ in_ramp (latest []) (since [] + 1)
-unfolding unflagged_in in_return latest no_call since
-first_holds = refl
-
-ended : (c : Call) (s : ℕ) → s ≡ 0 → 0 < c.seconds → unflagged_in (in_call c) ≡ in_ramp c (s + 1)
-unfolding unflagged_in
-ended c s z p = rw (z, under c.seconds, ramp_first c 0 p)
-
-ramps : (c : Call) (k : ℕ) (b : Bool) → in_return c k ≡ b → unflagged_in (cond b (Returning k (ramp_of c)) Holding) ≡ in_ramp c (k + 1)
-unfolding unflagged_in
-ramps c k true e = rw (ramp_on c k e)
-ramps c k false e = rw (ramp_over c k e)
-
-not_called : (x : LoadSecond) (h : History) → flagged x ≡ false → stage_of (x ∷ h) ≡ in_ramp (latest h) (since h + 1)
-unfolding returning
-not_called x h f = rw (no_call_lem x h f, stays x h f, one_since x h f)
+unfolding stage_of flagged_last flagged_in begun_in latest begun ramp_of
+with_flag [] x f = grind arith
+with_flag (y ∷ h) x f =
+    let longer_is = longer_stage (latest (y ∷ h)) (y ∷ h) x in
+    let on = goes_on x (y ∷ h) f in
+    let anew = begins x (y ∷ h) f in
+    grind arith
 
 without_flag : (h : History) (x : LoadSecond) → flagged x ≡ false → unflagged_in (stage_of h) ≡ stage_of (x ∷ h)
-unfolding stage_of returning
-without_flag [] x f = rw (not_called x [] f) first_holds
-without_flag (y ∷ h) x f = rw (not_called x (y ∷ h) f) (go (flagged y) refl)
-  where
-    go : (b : Bool) → flagged y ≡ b → unflagged_in (stage_of (y ∷ h)) ≡ in_ramp (latest (y ∷ h)) (since (y ∷ h) + 1)
-    go true q =
-        rw (in_call_lem y h q) (ended (latest (y ∷ h)) (since (y ∷ h)) (none_since y h q) (some (y ∷ h) (last_is y h ∙ q)))
-    go false q = rw (no_call_lem y h q) (ramps (latest (y ∷ h)) (since (y ∷ h)) (in_return (latest (y ∷ h)) (since (y ∷ h))) refl)
+unfolding stage_of flagged_last returning unflagged_in in_return latest since no_call
+without_flag [] x f = grind (arith, nat_tests)
+without_flag (y ∷ h) x f =
+    let m = under (latest (y ∷ h)).seconds in
+    let s = some (y ∷ h) in
+    grind (arith, nat_tests)
 
 -- the stage of a second is that of the past with it
 pub same_stage : (h : History) (x : LoadSecond) → stage_in (state_of h) x ≡ stage_of (x ∷ h)
 unfolding stage_in state_of
-same_stage h x = go (flagged x) refl
-  where
-    go : (b : Bool) → flagged x ≡ b → cond b (flagged_in (stage_of h) (grains (lower_before h)) x) (unflagged_in (stage_of h)) ≡ stage_of (x ∷ h)
-    go true q = with_flag h x q
-    go false q = without_flag h x q
+same_stage h x =
+    let on = with_flag h x in
+    let off = without_flag h x in
+    grind arith
 
 -- ---- the number
-
-blank_by : (a b : Bool) (c : Call) (k : ℕ) (r : Limits) → blank_in (cond a (in_call c) (cond b (Returning k r) Holding)) ≡ false
-unfolding blank_in
-blank_by true b c k r = refl
-blank_by false true c k r = refl
-blank_by false false c k r = refl
 
 blank : (h : History) → blank_in (state_of h).stage ≡ is_blank h
 unfolding state_of stage_of blank_in is_blank
 blank [] = refl
-blank (x ∷ h) = blank_by (flagged x) (returning (x ∷ h)) (latest (x ∷ h)) _ _
-
-holding_by : (b : Bool) (k : ℕ) (r : Limits) → holding_in (cond b (Returning k r) Holding) ≡ not b
-unfolding holding_in
-holding_by true k r = refl
-holding_by false k r = refl
+blank (x ∷ h) = grind arith
 
 holding : (h : History) (x : LoadSecond) → holds_in (state_of h) x ≡ holds h x
-unfolding holds_in holds state_of
-holding h x = go (flagged x) refl
-  where
-    go : (f : Bool) → flagged x ≡ f → (not f && holding_in (unflagged_in (stage_of h))) ≡ (not f && not (returning (x ∷ h)))
-    go true q = refl
-    go false q = rw (without_flag h x q, no_call_lem x h q) (holding_by (returning (x ∷ h)) _ _)
+unfolding holds_in holds state_of holding_in
+holding h x =
+    let off = without_flag h x in
+    let e = no_call_lem x h in
+    grind arith
 
 pub rules : (h : History) (x : LoadSecond) → rules_in (state_of h) x ≡ rules_at h x
 rules h x = rw (holding h x, blank h)
@@ -206,28 +97,11 @@ same_number h x = ap first (rules h x)
 
 -- ---- what it gives
 
-in_first_lem : (c : Call) (x : LoadSecond) → limits_in (in_call c) x ≡ cond (in_first c) (ramp_of c) (called x)
-unfolding limits_in first_in in_first
-in_first_lem c x = rw (within_first c.seconds)
-
-returned : (b : Bool) (k : ℕ) (r : Limits) (x : LoadSecond) → limits_in (cond b (Returning k r) Holding) x ≡ cond b r (bands.holding x)
-unfolding limits_in
-returned true k r x = refl
-returned false k r x = refl
-
 same_limits : (h : History) (x : LoadSecond) → limits_in (stage_of (x ∷ h)) x ≡ stage_limits h x
-unfolding stage_limits
-same_limits h x = go (flagged x) refl
-  where
-    go :
-        (f : Bool) →
-        flagged x ≡ f →
-        limits_in (stage_of (x ∷ h)) x
-        ≡ cond f
-        (cond (in_first (latest (x ∷ h))) (ramp_of (latest (x ∷ h))) (called x))
-        (cond (returning (x ∷ h)) (ramp_of (latest (x ∷ h))) (bands.holding x))
-    go true q = rw (in_call_lem x h q) (in_first_lem (latest (x ∷ h)) x)
-    go false q = rw (no_call_lem x h q) (returned (returning (x ∷ h)) _ _ x)
+unfolding stage_limits stage_of limits_in first_in in_first
+same_limits h x =
+    let first = within_first (latest (x ∷ h)).seconds in
+    grind arith
 
 state_is : (h : History) (x : LoadSecond) → state_of (x ∷ h) ≡ record { stage = stage_of (x ∷ h); before = grains (lower_of x) }
 unfolding state_of lower_before
