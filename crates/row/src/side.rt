@@ -34,28 +34,20 @@ pub struct PlantCounts {
     pub mfrr: KindCounts,
 }
 
-// By how much the larger of two powers exceeds the other.
-fn excess(larger: Kw, smaller: Kw) -> u32
-    requires { lt_z smaller.0 larger.0 ≡ true }
-    ensures { result ≡ nat_abs (larger.0 -ℤ smaller.0) }
-{
-    (larger.0 as i64 - smaller.0 as i64) as u32
-}
-
 impl KindRow {
     // The band's ends are within it.
+    #[tactic(auto, unfolding(crate::specs::Side::side_of))]
     pub fn side(self) -> BandSide
         ensures { result ≡ side_of self }
     {
-        let band = self.band;
-        let actual = self.actual;
-        let low = band.low;
-        let high = band.high;
-        if actual.is_below(low) {
-            return BandSide::Below(excess(low, actual));
+        let Kw(low) = self.band.low;
+        let Kw(high) = self.band.high;
+        let Kw(actual) = self.actual;
+        if actual < low {
+            return BandSide::Below(low.abs_diff(actual));
         }
-        if high.is_below(actual) {
-            return BandSide::Above(excess(actual, high));
+        if high < actual {
+            return BandSide::Above(actual.abs_diff(high));
         }
         BandSide::Within
     }
