@@ -10,7 +10,7 @@ use Rattle.numbers.proofs.Compared.{cmp_eq}
 use Rattle.power.specs.declared.kilowatts.Kw.{Kw}
 use Rattle.power.specs.Past.{newest}
 use Rattle.afrr.specs.Band.{ago}
-use Rattle.afrr.specs.State.{is_at, place_of}
+use Rattle.afrr.specs.State.{place_of}
 use Rattle.afrr.proofs.Windows.{ago_none}
 
 -- a past with no second has zeros at every place

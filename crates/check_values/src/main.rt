@@ -17,12 +17,8 @@ fn first_sheet() -> Sheet
     ensures { (result ≡ first_figures) × InRange result }
 {
     Sheet {
-        fcr_floor: 5,
-        afrr_floor: 5,
-        excess: 20,
         least_range: Kw(5000),
-        fcr_reaction: 15,
-        afrr_reaction: 30,
+        ..sheet::default_sheet()
     }
 }
 
@@ -31,19 +27,17 @@ fn fall_tolerance(age: u64) -> Kw
     ensures { result.0 ≡ fall_tolerance age }
 {
     let sheet = first_sheet();
-    let held = Kw(400);
     let s = Kw(-100);
-    let mut step = FcrState::new().step(sheet, s, held);
-    for a in 0..age {
-        let state = step.state;
-        step = state.step(sheet, s, held);
+    let mut state = FcrState::new();
+    let mut band = state.step(sheet, s, Kw(400));
+    for _ in 0..age {
+        band = state.step(sheet, s, Kw(400));
     }
-    let band = step.band;
-    let high = band.high;
-    high.minus(s)
+    band.high.minus(s)
 }
 
-// aFRR held up 10,000, setpoint 10,000 from second 0: the lower limit at the given second.
+// aFRR held up 10,000, setpoint 10,000 from second 0: the lower limit at the given second. (This loop and the one above stay two: what each state
+// asks of its next step would have to stand in the contract of one over both.)
 fn lower_limit(second: u64) -> Kw
     ensures { result.0 ≡ lower_at first_figures second }
 {
@@ -53,49 +47,22 @@ fn lower_limit(second: u64) -> Kw
         up: Kw(10000),
         down: Kw(0),
     };
-    let mut step = AfrrState::new().step(sheet, x);
-    for t in 0..second {
-        let state = step.state;
-        step = state.step(sheet, x);
+    let mut state = AfrrState::new();
+    let mut band = state.step(sheet, x);
+    for _ in 0..second {
+        band = state.step(sheet, x);
     }
-    let band = step.band;
     band.low
 }
 
-// The number of kW, with a minus sign where it is negative.
-fn print_kw(rt: &impl Print, k: Kw) -> io::Result<()> {
-    if k.is_below(Kw(0)) {
-        rt.print("-")?;
-    }
-    rt.print(k.magnitude())
-}
-
-// The text, the second that it speaks of, and the power.
-fn line(rt: &impl Print, text: &str, n: u64, k: Kw) -> io::Result<()> {
-    print!(rt; "{text}{n}: ")?;
-    print_kw(rt, k)?;
-    rt.print("\n")
-}
-
-fn fcr_line(rt: &impl Print, age: u64) -> io::Result<()> {
-    line(rt, "FCR upper tolerance at age ", age, fall_tolerance(age))
-}
-
-fn afrr_line(rt: &impl Print, second: u64) -> io::Result<()> {
-    line(
-        rt,
-        "aFRR lower limit at second ",
-        second,
-        lower_limit(second),
-    )
-}
-
 fn main(rt: HostRuntime) -> io::Result<()> {
-    fcr_line(&rt, 15)?;
-    fcr_line(&rt, 16)?;
-    fcr_line(&rt, 28)?;
-    afrr_line(&rt, 29)?;
-    afrr_line(&rt, 30)?;
-    afrr_line(&rt, 285)?;
-    afrr_line(&rt, 286)
+    for age in [15, 16, 28] {
+        let tolerance = fall_tolerance(age);
+        println!(rt; "FCR upper tolerance at age {age}: {tolerance}")?;
+    }
+    for second in [29, 30, 285, 286] {
+        let limit = lower_limit(second);
+        println!(rt; "aFRR lower limit at second {second}: {limit}")?;
+    }
+    Ok(())
 }

@@ -3,7 +3,7 @@ use mathlib.Core.Path.{◌≡◌, refl}
 use mathlib.Core.Bool.{Bool, true, false, cond}
 use Prim.Native.Nat.{ℕ, suc, ◌-◌, ◌≤◌, ◌<◌}
 use native.Mathlib.Omega.{arith}
-use lib.IntN.{ℤ, pos}
+use lib.IntN.{pos}
 use mir.Syntax.{w64}
 use mir.Val.{to_z}
 use borrow.Author.Tests.{leb-true, leb-false}
@@ -46,13 +46,6 @@ module _ (sh : Sheet) where
       go : (t : Bool) → is_early sh a ≡ t → cond t (whole_time sh) (whole_time sh - a) ≡ 0
       go true e = absurd (omega (arith, leb-true))
       go false e = omega arith
-
-  -- by the outcome of the test
-  pub parts_early : {z : ℤ} (a : ℕ) → is_early sh a ≡ true → z ≡ pos (whole_time sh) → z ≡ pos (time_parts sh a)
-  parts_early a e h = rw e h
-
-  pub parts_late : {z : ℤ} (a : ℕ) → is_early sh a ≡ false → z ≡ pos (whole_time sh - a) → z ≡ pos (time_parts sh a)
-  parts_late a e h = rw e h
 
   pub parts_within : InRange sh → (a : ℕ) → Within most_age (pos (time_parts sh a))
   parts_within r a = record { within = omega (arith, parts_most a, r.fcr_most) }

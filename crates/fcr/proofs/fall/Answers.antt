@@ -1,6 +1,5 @@
 -- The code's test is that of the definition.
-use Rattle.std.proofs.Common.{◌≡◌, ℤ, pos, sym, ap, ◌∙◌}
-use Rattle.numbers.specs.Bounds.{Within}
+use Rattle.std.proofs.Common.{ℤ, pos, sym, ap, ◌∙◌}
 use Rattle.numbers.specs.Order.{max_z}
 use Rattle.numbers.proofs.Compared.{cmp_le}
 use Rattle.numbers.proofs.Fit.{ranged}

@@ -1,11 +1,9 @@
 -- One more age adds what its change weighs; over all ages the sums are those of the definitions.
-use Rattle.std.proofs.Common.{◌≡◌, ◌∷◌, ℕ, ℤ, ◌≤◌, ◌<◌, ◌*◌, pos, ◌+ℤ◌, ◌*ℤ◌, refl, sym, ap, ◌∙◌, rules, arith, add-one, get_or}
-use Rattle.numbers.specs.Bounds.{Within}
-use Rattle.power.specs.Units.{kw}
+use Rattle.std.proofs.Common.{◌≡◌, ◌∷◌, ℤ, pos, ◌+ℤ◌, ◌*ℤ◌, refl, sym, ap, ◌∙◌, rules, add-one}
 use Rattle.power.proofs.Past.{ranged_cons}
 use Rattle.sheet.specs.Sheet.{per_time_part}
-use Rattle.fcr.specs.Band.{fallen, risen, sum_to, aged}
-use Rattle.fcr.specs.State.{most_age, kept, most_sum}
+use Rattle.fcr.specs.Band.{fallen, risen, sum_to}
+use Rattle.fcr.specs.State.{kept}
 use Rattle.fcr.proofs.Parts.{parts_within}
 use Rattle.fcr.proofs.Weighing.{weighed, falls_summed, rises_summed}
 use Rattle.fcr.proofs.Range.{added_fits}
