@@ -8,6 +8,7 @@ ghost use Rattle.block.specs.Layout.{closed};
 
 use crate::{CHECK_AT, SIZE};
 
+// 1, and each byte before the check times its place, counted from 1.
 pub(crate) fn check_of(s: &[u8]) -> u32
     requires { check_at ≤ length s.now }
     ensures { result ≡ check_of s.now }

@@ -83,9 +83,7 @@ pub fn second(s: &[u8], i: usize) -> &[u8]
     requires { (length s.now ≡ block_size) × (i < per_block) }
     ensures { SecondIn s.now i result.now }
 {
-    let from = second_at(i);
-    let end = from + SECOND;
-    &s[from..end]
+    &s[second_at(i)..second_at(i + 1)]
 }
 
 // The bytes of a block's first `count` seconds.
@@ -93,6 +91,5 @@ pub fn body(s: &[u8], count: usize) -> &[u8]
     requires { (length s.now ≡ block_size) × (count ≤ per_block) }
     ensures { result.now ≡ body_of s.now count }
 {
-    let end = second_at(count);
-    &s[BODY_AT..end]
+    &s[BODY_AT..second_at(count)]
 }

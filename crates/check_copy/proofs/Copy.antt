@@ -6,14 +6,17 @@ use native.Mathlib.Omega.{arith}
 use lib.ListN.{length}
 use Rattle.codec.specs.Little.{Bytes}
 use Rattle.record.specs.Record.{most_seconds}
+use Rattle.std.specs.Prelude.{Result, Ok, Err, IsOk, Some}
+use Rattle.std.specs.Result.{result_ok}
+use Rattle.refusals.specs.declared.Refusal.{Refusal}
+use Rattle.refusals.specs.Refusals.{number_of}
 use Rattle.block.specs.declared.Header.{Header}
-use Rattle.block.specs.declared.Header.TheVariants as header
-use Rattle.block.specs.declared.Block.{Block}
-use Rattle.block.specs.declared.Block.TheVariants as block
+use Rattle.block.specs.Said.{values, refused}
+use Rattle.block.specs.Layout.{body_of}
 use Rattle.block.specs.Places.{block_size, per_block}
-use Rattle.block.specs.Header.{owner_of, seconds_of, header_number, header_says}
+use Rattle.block.specs.Header.{owner_of, seconds_of, header_number, header_of, header_says}
 use Rattle.block.specs.Block.{count_of, block_number, block_of, block_says}
-use Rattle.block.specs.Writing.{Outcome}
+use Rattle.block.specs.Writing.{Outcome, written_says, wrote, header_written, block_written}
 use Rattle.block.proofs.Taken.{header_fields, whole_block}
 use Rattle.block.proofs.WriterClaims.{claims}
 use Rattle.check_copy.specs.Copy.{header_copy, block_copy, sent}
@@ -42,14 +45,27 @@ header_ends b s rest e = rw e refl
 pub block_ends : (b s rest : List ℕ) (t n : ℕ) {m : ℕ} → block_number s t n ≡ suc m → sent (block_copy b s t n) rest ≡ []
 block_ends b s rest t n e = rw e refl
 
--- ---- from the reader's answer
+-- ---- from the reader's and the writer's answers
 
-module _ (b s : List ℕ) where
-  -- what a caller needs to take the seconds out
-  pub whole : (t n : ℕ) (r : Block) (k : ℕ) → r ≡ block.Seconds k → block_says r ≡ block_of s t n → (length s ≡ block_size) × (k ≤ per_block)
-  whole t n r k is says = whole_block s t n k (sym says ∙ ap block_says is)
+-- what a caller needs to take the seconds out
+pub whole : (s : List ℕ) (t n : ℕ) (r : Result ℕ Refusal) (k : ℕ) → r ≡ Ok k → block_says r ≡ block_of s t n → (length s ≡ block_size) × (k ≤ per_block)
+whole s t n r k is says = whole_block s t n k (sym says ∙ ap block_says is)
 
-  pub few : (x : List ℕ) (r : Header) (o t : ℕ) → r ≡ header.Fields o t → ◌≡◌ {A = Outcome} (record { said = header_says r; buffer = x }) (header_copy b s) → t ≤ most_seconds
-  few x r o t is e =
-      let f = header_fields s o t (sym (ap (λ (y : Outcome). y.said) e) ∙ ap header_says is) in
-      omega (arith, f.2, f.0.most)
+pub few : (b s x : List ℕ) (r : Result Header Refusal) (h : Header) → result_ok r ≡ Some h → ◌≡◌ {A = Outcome} (record { said = header_says r; buffer = x }) (header_copy b s) → h.seconds ≤ most_seconds
+few b s x (Ok y) h is e =
+    let f = header_fields s y.owner y.seconds (sym (ap (λ (o : Outcome). o.said) e)) in
+    let same : y ≡ h = cc in
+    rw (← same) (omega (arith, f.2, f.0.most))
+few b s x (Err n) h is e = cc
+
+done : {x s : List ℕ} (r : Result (Unit {0}) Refusal) → ◌≡◌ {A = Outcome} (record { said = written_says r; buffer = x }) (wrote s) → IsOk r
+done (Ok u) e = refl
+done (Err n) e = let f : refused (number_of n) ≡ values [] = ap (λ (o : Outcome). o.said) e in cc
+
+module _ (b s : List ℕ) {x : List ℕ} (w : Result (Unit {0}) Refusal) (size : length b ≡ block_size) (bytes : Bytes s) where
+  -- what was read can be written
+  pub header_done : (r : Result Header Refusal) (h : Header) → r ≡ Ok h → header_says r ≡ header_of s → ◌≡◌ {A = Outcome} (record { said = written_says w; buffer = x }) (header_written b h.owner h.seconds) → IsOk w
+  header_done r h is says e = done w (e ∙ claims.header_is_written b s h.owner h.seconds size bytes (sym says ∙ ap header_says is))
+
+  pub block_done : (t n k : ℕ) (body : List ℕ) (r : Result ℕ Refusal) → r ≡ Ok k → block_says r ≡ block_of s t n → body ≡ body_of s k → ◌≡◌ {A = Outcome} (record { said = written_says w; buffer = x }) (block_written b n body) → IsOk w
+  block_done t n k body r is says same e = done w (e ∙ ap (block_written b n) same ∙ claims.block_is_written b s t n k size bytes (sym says ∙ ap block_says is))

@@ -1,5 +1,5 @@
 -- What is put after the bytes before the check is their check.
-use Rattle.std.proofs.Common.{arith, rules}
+use Rattle.std.proofs.Common.{rules}
 use Rattle.block.proofs.Puts.{checked}
 use Rattle.block.proofs.bytes.put_check.Goals as goal
 
