@@ -7,7 +7,7 @@ ghost use Rattle.line.specs.Line.{plant_text, second_text, sum_text, refusal_tex
 ghost use Rattle.line.specs.Lined.{Lined};
 
 use crate::check_room;
-use crate::number::{put_count, put_field, put_sum};
+use crate::number::{put_count, put_field, put_number};
 use refusals::Refusal;
 use row::{KwSeconds, Row, Sums};
 
@@ -32,7 +32,7 @@ fn put_named(buf: &mut [u8], at: usize, name: &[u8], v: KwSeconds) -> usize
     ensures { Put (length name.now + sum_width) buf.old buf.new at result (named name.now v.0) }
 {
     let at = codec::put_bytes(buf, at, name);
-    put_sum(buf, at, v)
+    put_number(buf, at, v.0)
 }
 
 // The line of a second: the unit's figures, then those of the pools A and B.

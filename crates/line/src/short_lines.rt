@@ -6,7 +6,7 @@ ghost use Rattle.line.specs.Widths.{row_room, name_width, side_width, outside_wi
 ghost use Rattle.line.specs.Short.{outside_text, side_text, short_text, side_count_text, kind_counts_text, counts_text};
 ghost use Rattle.line.specs.Lined.{Lined};
 
-use crate::number::{put_amount, put_count};
+use crate::number::{put_count, put_number};
 use crate::{ROW_ROOM, check_room};
 use refusals::Refusal;
 use row::{BandSide, KindCounts, KindRow, PlantCounts, Row, SideCount};
@@ -67,7 +67,7 @@ fn put_side_count(buf: &mut [u8], at: usize, side: &[u8], c: SideCount) -> usize
     let at = codec::put_bytes(buf, at, side);
     let at = put_count(buf, at, c.seconds);
     let at = codec::put_byte(buf, at, b' ');
-    put_amount(buf, at, c.kw_seconds)
+    put_number(buf, at, c.kw_seconds)
 }
 
 fn put_kind_counts(buf: &mut [u8], at: usize, letter: u8, kind: &[u8], c: KindCounts) -> usize
