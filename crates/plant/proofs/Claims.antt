@@ -40,7 +40,7 @@ use Rattle.afrr.proofs.Claims as afrr-claims
 use Rattle.mfrr.proofs.Claims as mfrr-claims
 use Rattle.plant.specs.Seconds.{History, Closed, on_timeline, fcr_setpoint, fcr_past, afrr_second, afrr_past, mfrr_second, mfrr_past}
 use Rattle.plant.specs.Refusals.{most_power, record_number_at, number_at, AllClosed, Accepted, grown_by, grown}
-use Rattle.plant.specs.Rows.{kinds_with, kinds_at, row_at, number_in, says, said_by, answer_at, shared_difference, figures_of}
+use Rattle.plant.specs.Rows.{kinds_with, kinds_at, row_at, number_in, says, answer_at, shared_difference, figures_of}
 use Rattle.plant.specs.State.{PlantStep, state_of, handed_over, OverPast, most_added, Added, step_in, Ready}
 use Rattle.plant.specs.Run.{PlantSecond, state_after, answers, accepted, answers_over}
 use Rattle.plant.specs.Claims.{kind_list, EveryList, RowHolds, Stuck, call_while_off, Claims}
@@ -73,16 +73,16 @@ number_by : (n : ℕ) (r : Row) → number_in (answer_by n r) ≡ n
 number_by zero r = refl
 number_by (suc n) r = refl
 
-said_by_lem : (n : ℕ) (r : Row) → says (answer_by n r) ≡ said_by n (figures_of r)
-said_by_lem zero r = refl
-said_by_lem (suc n) r = refl
+says_by : (n : ℕ) (r : Row) → says (answer_by n r) ≡ answer_by n (figures_of r)
+says_by zero r = refl
+says_by (suc n) r = refl
 
 pub over_past : (sh : Sheet) → InRange sh → (c : Closed) (h : History) (a : Accepted c h) (s : List ℕ) (m w : ℤ) → OverPast sh c h s m w (step_in sh (state_of sh c h) s m w)
 unfolding answer_at
 over_past sh i c h a s m w =
     let o = over_bytes sh i c h a s m w in
     record {
-      said = ap (λ (p : PlantStep). says p.answer) o ∙ said_by_lem (number_at c h s) _;
+      said = ap (λ (p : PlantStep). says p.answer) o ∙ says_by (number_at c h s) _;
       number = ap (λ (p : PlantStep). number_in p.answer) o ∙ number_by (number_at c h s) _;
       answer = ap (λ (p : PlantStep). p.answer) o;
       state = ap (λ (p : PlantStep). p.state) o;

@@ -11,7 +11,7 @@ use lib.ListN.{length}
 use Rattle.refusals.specs.Refusals.{answer_by}
 use Rattle.numbers.specs.Rules.{Rule, refuse, first, differ}
 use Rattle.numbers.proofs.Rules.{none, neither}
-use Rattle.numbers.proofs.Test.{or_false}
+use Rattle.numbers.proofs.Test.{or_false, and_no_r}
 use Rattle.numbers.specs.Bounds.{outside}
 use Rattle.sheet.specs.declared.Sheet.{Sheet}
 use Rattle.record.specs.declared.KindBits.{KindBits}
@@ -68,17 +68,13 @@ none_moves : (fault : Bool) (k : KindBits) → any_moved fault k k ≡ false
 unfolding any_moved
 none_moves fault k = rw (kind_stays fault k.fcr, kind_stays fault k.afrr, kind_stays fault k.mfrr)
 
-and_false : (t : Bool) → (t && false) ≡ false
-and_false true = refl
-and_false false = refl
-
 pub quarter_hour_lem : (sh : Sheet) (c : Closed) (h : History) (s : List ℕ) → QuarterHour sh c h s
 unfolding answer_at status_moved
 quarter_hour_lem sh c h s =
     record {
       other_numbers = other_numbers c h s;
       same_answer = λ n m w. ap (λ (k : ℕ). answer_by k (row_at sh c h (record_of s) m w)) (other_numbers c h s n);
-      unchanged = λ e. rw (e, none_moves) (and_false (differ (length h % quarter_hour) 0));
+      unchanged = λ e. rw (e, none_moves) (and_no_r (differ (length h % quarter_hour) 0) false refl);
       at_multiples = λ e. rw (eq-eqb _ _ e);
     }
 

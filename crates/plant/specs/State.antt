@@ -149,7 +149,8 @@ step_in sh st s m w = read_in sh (reading_of s) st m w
 
 -- ---- what a step asks and ensures
 
--- what is asked of a sheet and a state: every list of seconds leaves it so (`EveryList` of specs/Claims.antt)
+-- what is asked of a sheet and a state: every list of seconds leaves it so (`EveryList` of specs/Claims.antt). No invariant of the state's type, since a
+-- state holds no sheet: a fresh one is ready under any.
 pub record Ready (sh : Sheet) (st : PlantState) : Type 0 where
   pub sheet : InRange sh
   pub count : st.seconds ≤ most_seconds

@@ -1,10 +1,9 @@
 -- mFRR's refusal, that of a kind off, or the row.
 use Rattle.std.proofs.Common.{ap}
-use Rattle.std.proofs.lemmas.Result.{err_from_is_err_and}
 use Rattle.refusals.specs.Refusals.{told}
 use Rattle.fcr.proofs.Range.{setpoint_within}
 use Rattle.plant.proofs.Past.{afrr_second_fair}
-use Rattle.plant.proofs.Steps.{CallPassed, KindsGiven, record_passed, call_refused, call_passed, off_refused, shareable, accepted}
+use Rattle.plant.proofs.Steps.{CallPassed, KindsGiven, record_passed, told_left, call_refused, call_passed, off_refused, shareable, accepted}
 use Rattle.plant.proofs.PlantState.second_of.Goals as goal
 use Rattle.plant.proofs.PlantState.second_of.Goals.{In_ok-value, After-kinds_of-kinds}
 
@@ -13,16 +12,15 @@ called c = call_passed (record_passed c.requires) (rw c.call_of.ensures at c.ste
 
 pub returns-in_err-value : goal.returns-in_err-value
 returns-in_err-value c =
-    let p = err_from_is_err_and c.from_residual.result c.from_residual.ensures.1 in
-    rw (p.1, p.2) (call_refused (record_passed c.requires) (rw c.call_of.ensures at c.step.ensures) (ap told c.in_err-value.was))
+    rw (told_left _ _ c.from_residual.ensures.1)
+    (call_refused (record_passed c.requires) (rw c.call_of.ensures at c.step.ensures) (ap told c.in_err-value.was))
 
 pub setpoints_of-setpoints-requires : goal.setpoints_of-setpoints-requires
 setpoints_of-setpoints-requires c = (record_passed c.requires).passed.fcr_held_is.range
 
 pub returns-in_err-check_off : goal.returns-in_err-check_off
 returns-in_err-check_off c =
-    let p = err_from_is_err_and c.from_residual-in_err-check_off.result c.from_residual-in_err-check_off.ensures.1 in
-    rw (p.1, p.2)
+    rw (told_left _ _ c.from_residual-in_err-check_off.ensures.1)
     (off_refused (called (goal.at.returns-in_err-check_off c).In_ok-value) _
     (rw (c.from.ensures, c.setpoints_of-setpoints.ensures) at c.in_err-check_off.ensures))
 
