@@ -94,7 +94,7 @@ impl From<Refusal> for BookRefusal {
     ghost from_gives = { λ refusal e. e ≡ Form refusal };
 
     fn from(refusal: Refusal) -> BookRefusal {
-        BookRefusal::Form(refusal)
+        Self::Form(refusal)
     }
 }
 
