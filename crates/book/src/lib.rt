@@ -5,10 +5,11 @@ mod list;
 mod sums;
 mod unit;
 
-ghost use Rattle.std.specs.Prelude.{◌≡◌, length};
+ghost use Rattle.std.specs.Prelude.{◌≡◌, ◌%◌, eqb, length};
 ghost use Rattle.refusals.specs.Refusals.{told, number_in};
 ghost use Rattle.sheet.specs.Sheet.{InRange};
 ghost use Rattle.record.specs.Record.{size};
+ghost use Rattle.mfrr.specs.Signal.{quarter_hour};
 ghost use Rattle.book.specs.declared.BookRefusal.TheVariants.{Form, Of};
 ghost use Rattle.book.specs.Answers.{refusal_in, book_told};
 ghost use Rattle.book.specs.Refusals.{form_number};
@@ -112,6 +113,13 @@ fn check_form(owner: u8, bytes: &[u8]) -> Result<(), Refusal>
     Ok(())
 }
 
+// Whether so many seconds are whole quarter hours.
+fn is_whole(seconds: u32) -> bool
+    ensures { result ≡ eqb (seconds % quarter_hour) 0 }
+{
+    seconds % mfrr::QUARTER_HOUR == 0
+}
+
 impl Book {
     // A fresh book under a sheet, unless one of its figures is outside its range.
     pub fn open(sheet: Sheet) -> Result<Self, Refusal>
@@ -142,7 +150,7 @@ impl Book {
         requires { Ready self.old }
         ensures { HandedOver self.old (record { answer = told result; book = self.new }) }
     {
-        if self.unit.seconds % mfrr::QUARTER_HOUR != 0 {
+        if !is_whole(self.unit.seconds) {
             return Err(Refusal::BookLength);
         }
         self.unit = self.unit.handed_over();
