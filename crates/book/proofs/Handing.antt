@@ -1,8 +1,10 @@
 -- A handover, by the length of the closing book. Assumes nothing.
-use mathlib.Core.Path.{◌≡◌, refl, ap, ◌∙◌}
+use mathlib.Core.Path.{◌≡◌, refl, sym, ap, ◌∙◌}
+use mathlib.Core.Bool.{Bool, true, false, not}
 use mathlib.Core.List.{[], ◌∷◌}
 use Prim.Native.Nat.{ℕ, ◌%◌}
 use borrow.Author.Tests.{eq-eqb, ne_eqb}
+use lib.Dec.{eqb}
 use lib.ListN.{length, length-map}
 use Rattle.sheet.specs.declared.Sheet.{Sheet}
 use Rattle.mfrr.specs.Signal.{quarter_hour}
@@ -53,20 +55,23 @@ at_hand_over sh c h =
 abbrev Opens : PlantState → PlantState → Type 0
 Opens st r = (r ≡ plant.handed_over st) × ((sh : Sheet) → plant.Ready sh st → plant.Ready sh r)
 
-module _ (k : Book) (ready : Ready k) where
+-- w is what `is_whole` answers of the book's count
+module _ (k : Book) (ready : Ready k) {w : Bool} (ew : w ≡ eqb (k.unit.seconds % quarter_hour) 0) where
   past : (sh : Sheet) (c : Closed) (h : History) → k ≡ state_of sh c h → AtHandOver sh k c h
   past sh c h e = rw e (at_hand_over sh c h)
 
-  pub refused : (k.unit.seconds % quarter_hour ≡ 0 → ⊥) → HandedOver k (record { answer = Refused 29; book = k })
+  pub refused : not w ≡ true → HandedOver k (record { answer = Refused 29; book = k })
   unfolding hand_over_in hand_over_number
-  refused n = let t = ne_eqb _ _ n in record { is = rw t; number = rw t; past = past; ready = ready }
+  refused n =
+      let t : not (eqb (k.unit.seconds % quarter_hour) 0) ≡ true = ap not (sym ew) ∙ n in
+      record { is = rw t; number = rw t; past = past; ready = ready }
 
   pub opened :
-      {u a b : PlantState} → k.unit.seconds % quarter_hour ≡ 0 → Opens k.unit u → Opens k.a a → Opens k.b b
+      {u a b : PlantState} → not w ≡ false → Opens k.unit u → Opens k.a a → Opens k.b b
       → HandedOver k (record { answer = Opened; book = record { sheet = k.sheet; unit = u; a = a; b = b; sums = no_sums } })
   unfolding hand_over_in hand_over_number
   opened n u a b =
-      let t = eq-eqb _ _ n in
+      let t : not (eqb (k.unit.seconds % quarter_hour) 0) ≡ false = ap not (sym ew) ∙ n in
       record {
         is = rw (t, u.0, a.0, b.0);
         number = rw t;

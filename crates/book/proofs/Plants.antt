@@ -10,7 +10,7 @@ use Rattle.refusals.specs.Refusals as plant-answer
 use Rattle.sheet.specs.declared.Sheet.{Sheet}
 use Rattle.record.specs.declared.KindBits.{KindBits}
 use Rattle.record.specs.declared.Record.{Record}
-use Rattle.record.specs.Record.{most_seconds, record_of}
+use Rattle.record.specs.Record.{most_seconds, record_of, bits_of}
 use Rattle.row.specs.declared.Row.{Row}
 use Rattle.row.specs.declared.sums.Sums.{Sums}
 use Rattle.sharing.specs.Sizes.{SizedRow}
@@ -23,7 +23,7 @@ use Rattle.book.specs.declared.Book.{Book}
 use Rattle.book.specs.declared.Plant.TheVariants.{U, A, B}
 use Rattle.book.specs.Answers.{BookStep, Rows}
 use Rattle.book.specs.Seconds.{due_from, due_of}
-use Rattle.book.specs.Rows.{values_of, unit_point, Pool, pool_a, pool_b}
+use Rattle.book.specs.Rows.{values_of, others, sold_by_a, sold_by_b, unit_point, Pool, pool_a, pool_b}
 use Rattle.book.specs.State.{second_of, unit_in, pool_in, sums_with, refused_by, plants_in, most_at_unit, most_at_pool, Ready, SumsReady, PowersInRange, Summed, PartsOf, PlantsStepped}
 use Rattle.book.proofs.Sizes.{added_small, shared_within, difference_small, sums_longer, sums_more}
 
@@ -66,14 +66,20 @@ module _ {sh : Sheet} {st : PlantState} {u : List ℕ} {r : Row} {q : PlantState
 abbrev pub added : KindBits → List ℕ → Row → ℤ
 added b u r = point u +ℤ values_of b r
 
--- its second, as it is asked with the unit's record x and the bits y
-pub asked_with :
-    (u : List ℕ) (r : Row) {b y : KindBits} {x : Record} {m : ℤ} {sh : Sheet} {st : PlantState} {s : List ℕ} {p : PlantStep}
-    → x ≡ record_of u → y ≡ b → m ≡ x.working_point.0 +ℤ values_of y r
-    → plant.Stepped sh st s m x.working_point.0 p → plant.Stepped sh st s (added b u r) (point u) p
-asked_with u r {x = x} {m = m} {sh = sh} {st} {s} {p} ex eb em h =
-    subst (λ (n : ℤ). plant.Stepped sh st s n (point u) p) (em ∙ (λ i. (ex i).working_point.0 +ℤ values_of (eb i) r))
-    (subst (λ (z : Record). plant.Stepped sh st s m z.working_point.0 p) ex h)
+-- its second, as it is asked with the unit's record x and the kinds that the owner's bits say that B sells
+module _ (o : ℕ) (u : List ℕ) (r : Row) {x : Record} {sold : KindBits} {sh : Sheet} {st : PlantState} {s : List ℕ} {m : ℤ} {p : PlantStep} (ex : x ≡ record_of u) (es : sold ≡ bits_of o) where
+  asked : {b y : KindBits} → y ≡ b → m ≡ x.working_point.0 +ℤ values_of y r → plant.Stepped sh st s m x.working_point.0 p → plant.Stepped sh st s (added b u r) (point u) p
+  asked eb em h =
+      subst (λ (n : ℤ). plant.Stepped sh st s n (point u) p) (em ∙ (λ i. (ex i).working_point.0 +ℤ values_of (eb i) r))
+      (subst (λ (z : Record). plant.Stepped sh st s m z.working_point.0 p) ex h)
+
+  pub a_asked :
+      {y : KindBits} → y ≡ others sold → m ≡ x.working_point.0 +ℤ values_of y r → plant.Stepped sh st s m x.working_point.0 p
+      → plant.Stepped sh st s (added (sold_by_a o) u r) (point u) p
+  a_asked e em h = asked (e ∙ ap others es) em h
+
+  pub b_asked : m ≡ x.working_point.0 +ℤ values_of sold r → plant.Stepped sh st s m x.working_point.0 p → plant.Stepped sh st s (added (sold_by_b o) u r) (point u) p
+  b_asked em h = asked es em h
 
 -- ---- what `plants` is given: the book k, the owner o, and the bytes u, a and b
 

@@ -1,4 +1,5 @@
 -- A second's figures and their sums are small enough. Assumes nothing.
+use mathlib.Core.Path.{◌≡◌}
 use mathlib.Core.Bool.{Bool, true, false}
 use Prim.Native.Nat.{ℕ, ◌+◌, ◌*◌, ◌≤◌, zero-le}
 use native.Mathlib.Nat.{mul-le-mul_right}
@@ -24,13 +25,10 @@ use Rattle.sharing.proofs.Sizes.{less, more}
 use Rattle.book.specs.Seconds.{difference}
 use Rattle.book.specs.Rows.{value_if, values_of}
 use Rattle.book.specs.Sums.{kw_seconds, actuals_of, open_of}
-use Rattle.book.specs.State.{most_summand, most_at_unit, most_at_pool, most_values, most_in_second, sums_with, SumsReady, PowersInRange, Summed}
+use Rattle.book.specs.State.{most_at_unit, most_at_pool, most_values, most_in_second, sums_with, SumsReady, PowersInRange, Summed}
 
 three : (B C : ℕ) (x y z : ℤ) → 3 * B ≤ C → Within B x → Within B y → Within B z → Within C (x +ℤ (y +ℤ z))
 three B C x y z h p q r = more B (2 * B) C x (y +ℤ z) (omega arith) p (more B B (2 * B) y z (omega arith) q r)
-
-pub three_fit : (x y z : ℤ) → Within most_summand x → Within most_summand y → Within most_summand z → SFits w32 (x +ℤ (y +ℤ z))
-three_fit x y z p q r = let h = three most_summand (3 * most_summand) x y z (omega arith) p q r in search fit
 
 -- ---- the unit's values
 
@@ -43,13 +41,13 @@ value true k h = h
 value false k h = search fit
 
 module _ (b : KindBits) (r : Row) (s : SizedRow most_at_unit r) where
-  pub fcr_value : Within most_actual (value_if b.fcr r.fcr)
+  fcr_value : Within most_actual (value_if b.fcr r.fcr)
   fcr_value = value b.fcr r.fcr s.fcr.actual
 
-  pub afrr_value : Within most_actual (value_if b.afrr r.afrr)
+  afrr_value : Within most_actual (value_if b.afrr r.afrr)
   afrr_value = value b.afrr r.afrr s.afrr.actual
 
-  pub mfrr_value : Within most_actual (value_if b.mfrr r.mfrr)
+  mfrr_value : Within most_actual (value_if b.mfrr r.mfrr)
   mfrr_value = value b.mfrr r.mfrr s.mfrr.actual
 
   pub values_small : Within most_values (values_of b r)
@@ -59,6 +57,9 @@ module _ (b : KindBits) (r : Row) (s : SizedRow most_at_unit r) where
 -- what a pool's measured has added: the unit's working point and the pool's own values there
 pub added_small : (p : ℤ) (b : KindBits) (r : Row) → Within most_power p → SizedRow most_at_unit r → Within most_added (p +ℤ values_of b r)
 added_small p b r w s = more most_power most_values most_added _ _ (omega arith) w (values_small b r s)
+
+pub added_fits : (p v : ℤ) (b : KindBits) (r : Row) → v ≡ values_of b r → Within most_power p → SizedRow most_at_unit r → SFits w32 (p +ℤ v)
+added_fits p v b r e w s = rw e (let l = added_small p b r w s in search fit)
 
 -- measured - working point of a record as shared, where sharing adds m and w
 pub shared_within : (M W D : ℕ) (x : Record) (m w : ℤ) → most_power + M + (most_power + W) ≤ D → PowersInRange x → Within M m → Within W w → Within D (shared_difference x m w)
@@ -88,10 +89,6 @@ sums_none n = record { a = none; b = none; «open» = none; due = none }
   where
     none : Within (n * most_in_second) (pos 0)
     none = record { within = zero-le }
-
--- a sum that is kept, and one second's addition
-pub sum_fits : (x y : ℤ) → Within (most_seconds * most_in_second) x → Within most_in_second y → SFits w64 (x +ℤ y)
-sum_fits x y p q = search fit
 
 longer : (n m : ℕ) (z : ℤ) → n ≤ m → Within (n * most_in_second) z → Within (m * most_in_second) z
 longer n m z h p = record { within = omega (arith, p.within, mul-le-mul_right most_in_second h) }

@@ -5,10 +5,11 @@ mod list;
 mod sums;
 mod unit;
 
-ghost use Rattle.std.specs.Prelude.{◌≡◌, length};
+ghost use Rattle.std.specs.Prelude.{◌≡◌, ◌%◌, eqb, length};
 ghost use Rattle.refusals.specs.Refusals.{told, number_in};
 ghost use Rattle.sheet.specs.Sheet.{InRange};
 ghost use Rattle.record.specs.Record.{size};
+ghost use Rattle.mfrr.specs.Signal.{quarter_hour};
 ghost use Rattle.book.specs.declared.BookRefusal.TheVariants.{Form, Of};
 ghost use Rattle.book.specs.Answers.{refusal_in, book_told};
 ghost use Rattle.book.specs.Refusals.{form_number};
@@ -94,7 +95,7 @@ impl From<Refusal> for BookRefusal {
     ghost from_gives = { λ refusal e. e ≡ Form refusal };
 
     fn from(refusal: Refusal) -> BookRefusal {
-        BookRefusal::Form(refusal)
+        Self::Form(refusal)
     }
 }
 
@@ -110,6 +111,13 @@ fn check_form(owner: u8, bytes: &[u8]) -> Result<(), Refusal>
         return Err(Refusal::Owner);
     }
     Ok(())
+}
+
+// Whether so many seconds are whole quarter hours.
+fn is_whole(seconds: u32) -> bool
+    ensures { result ≡ eqb (seconds % quarter_hour) 0 }
+{
+    seconds % mfrr::QUARTER_HOUR == 0
 }
 
 impl Book {
@@ -142,7 +150,7 @@ impl Book {
         requires { Ready self.old }
         ensures { HandedOver self.old (record { answer = told result; book = self.new }) }
     {
-        if self.unit.seconds % mfrr::QUARTER_HOUR != 0 {
+        if !is_whole(self.unit.seconds) {
             return Err(Refusal::BookLength);
         }
         self.unit = self.unit.handed_over();
