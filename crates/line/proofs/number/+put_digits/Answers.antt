@@ -12,8 +12,8 @@ put_byte-requires t c = omega (arith, ap length (digits_one _ c.if-n-lt10.true))
 pub returns-then-n-lt10 : goal.returns-then-n-lt10
 returns-then-n-lt10 t c = let d = c.glyph.ensures in rw (digits_one _ c.if-n-lt10.true, ← d) c.put_byte.ensures
 
-pub put_pair-requires : goal.put_pair-requires
-put_pair-requires t c = (c.if-n-lt100.true, omega (arith, ap length (digits_two _ c.if-n-lt10.false c.if-n-lt100.true)))
+pub put_pair-requires-clause-room : goal.put_pair-requires-clause-room
+put_pair-requires-clause-room t c = omega (arith, ap length (digits_two _ c.if-n-lt10.false c.if-n-lt100.true))
 
 pub returns-then-n-lt100 : goal.returns-then-n-lt100
 returns-then-n-lt100 t c = rw (digits_two _ c.if-n-lt10.false c.if-n-lt100.true) c.put_pair.ensures
@@ -21,8 +21,8 @@ returns-then-n-lt100 t c = rw (digits_two _ c.if-n-lt10.false c.if-n-lt100.true)
 pub put_digits-to-requires : goal.put_digits-to-requires
 put_digits-to-requires t c = (omega arith, omega (arith, two_longer _ c.if-n-lt100.false))
 
-pub put_pair-requires-2 : goal.put_pair-requires-2
-put_pair-requires-2 t c = (omega arith, omega (arith, two_longer _ c.if-n-lt100.false))
+pub put_pair-requires-2-clause-room : goal.put_pair-requires-2-clause-room
+put_pair-requires-2-clause-room t c = omega (arith, two_longer _ c.if-n-lt100.false)
 
 pub returns : goal.returns
 returns t c = rw (digits_hundred _ c.if-n-lt100.false, length-append) (both c.put_digits-to.ensures c.put_pair-2.ensures)
