@@ -17,6 +17,7 @@ use Rattle.row.specs.declared.sums.Sums.{Sums}
 use Rattle.row.specs.Fits.{Sums64}
 use Rattle.record.specs.Record.{most_seconds}
 use Rattle.plant.specs.Refusals.{most_power}
+use Rattle.plant.specs.State.{most_added}
 use Rattle.plant.specs.Rows.{shared_difference}
 use Rattle.sharing.specs.Sizes.{SizedRow}
 use Rattle.sharing.proofs.Sizes.{less, more}
@@ -54,6 +55,10 @@ module _ (b : KindBits) (r : Row) (s : SizedRow most_at_unit r) where
   pub values_small : Within most_values (values_of b r)
   unfolding values_of
   values_small = three most_actual most_values _ _ _ (omega arith) fcr_value afrr_value mfrr_value
+
+-- what a pool's measured has added: the unit's working point and the pool's own values there
+pub added_small : (p : ℤ) (b : KindBits) (r : Row) → Within most_power p → SizedRow most_at_unit r → Within most_added (p +ℤ values_of b r)
+added_small p b r w s = more most_power most_values most_added _ _ (omega arith) w (values_small b r s)
 
 -- measured - working point of a record as shared, where sharing adds m and w
 pub shared_within : (M W D : ℕ) (x : Record) (m w : ℤ) → most_power + M + (most_power + W) ≤ D → PowersInRange x → Within M m → Within W w → Within D (shared_difference x m w)

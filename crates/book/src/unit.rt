@@ -30,6 +30,7 @@ fn value_if(sold: bool, k: KindRow) -> Kw
 }
 
 // The actual values at the unit of the kinds whose bits are set.
+#[tactic(auto, unfolding(crate::specs::Rows::values_of))]
 fn values_of(b: KindBits, r: Row) -> Kw
     requires { SizedRow most_at_unit r }
     ensures { result.0 ≡ values_of b r }
