@@ -8,8 +8,8 @@ use Rattle.sheet.specs.declared.Sheet.{Sheet}
 use Rattle.sheet.specs.Sheet.{InRange}
 use Rattle.plant.specs.State as plant
 use Rattle.book.specs.declared.Book.{Book}
-use Rattle.book.specs.declared.BookAnswer.{BookAnswer}
-use Rattle.book.specs.declared.BookAnswer.TheVariants as answer
+use Rattle.book.specs.Answers as answer
+use Rattle.book.specs.Answers.{BookAnswer}
 use Rattle.book.specs.Seconds.{BookSecond, History, Closed, unit_bytes, past_of}
 use Rattle.book.specs.Refusals.{number_at, Accepted, grown}
 use Rattle.book.specs.Rows.{unit_row_at, a_row_at, b_row_at, answer_at, number_in}
@@ -17,9 +17,9 @@ use Rattle.book.specs.Run.{accepted}
 use Rattle.book.specs.State.{state_of, second_of, step_in}
 use Rattle.book.proofs.Past.{cleared, over_past}
 use Rattle.report.specs.declared.Form.{Form}
+use Rattle.report.specs.declared.run.Kept.{Kept}
 use Rattle.report.specs.declared.run.Plan.{Plan}
-use Rattle.report.specs.declared.run.Verdict.TheVariants as verdict
-use Rattle.report.specs.Running.{Kept, keep, Ran, answered, refused_at, second_in}
+use Rattle.report.specs.Running.{Accepted as kept_going, keep, Ran, answered, refused_at, second_in}
 use Rattle.report.specs.Counts.{kept_of, kept_after}
 use Rattle.report.specs.Text.{lines_of}
 use Rattle.report.proofs.Past.{tally_more}
@@ -54,7 +54,7 @@ module _ (sh : Sheet) (i : InRange sh) (p : Plan) where
   abbrev second : List ℕ → BookSecond
   second s = second_of p.owner s
 
-  pub taken : (c : Closed) (h : History) (s : List ℕ) → Accepted c h → number_at c h (second s) ≡ 0 → second_in p (kept_of sh c h) s ≡ record { text = lines_of p.form (length h) (unit_row_at sh c h (second s)) (a_row_at sh c h (second s)) (b_row_at sh c h (second s)); kept = kept_of sh c (second s ∷ h); verdict = verdict.Accepted }
+  pub taken : (c : Closed) (h : History) (s : List ℕ) → Accepted c h → number_at c h (second s) ≡ 0 → second_in p (kept_of sh c h) s ≡ record { text = lines_of p.form (length h) (unit_row_at sh c h (second s)) (a_row_at sh c h (second s)) (b_row_at sh c h (second s)); kept = kept_of sh c (second s ∷ h); verdict = kept_going }
   unfolding second_in
   taken c h s f e =
       let o = over_past sh i c h f (second s) in
