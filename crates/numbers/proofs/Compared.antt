@@ -1,5 +1,5 @@
 -- What a derived comparison of signed numbers answers. Assumes nothing.
-use mathlib.Core.Path.{◌≡◌, refl}
+use mathlib.Core.Path.{◌≡◌, refl, sym, ◌∙◌}
 use mathlib.Core.Bool.{Bool, true, false, cond, ◌&&◌}
 use native.Mathlib.Omega.{arith}
 use lib.IntN.{ℤ}
@@ -45,3 +45,13 @@ module _ (a b : ℤ) where
       go false false true true d e f g = refl
       go false false true false d e f g = absurd (omega (arith, flags))
       go false false false w d e f g = absurd (omega (arith, flags))
+
+  -- what a test in the code says of the definition that it meets
+  pub lt_told : {r t : Bool} → r ≡ is_lt (int_cmp a b) → r ≡ t → lt_z a b ≡ t
+  lt_told e f = sym cmp_lt ∙ sym e ∙ f
+
+  pub le_told : {r t : Bool} → r ≡ is_le (int_cmp a b) → r ≡ t → le_z a b ≡ t
+  le_told e f = sym cmp_le ∙ sym e ∙ f
+
+  pub eq_told : {r t : Bool} → r ≡ is_eq (int_cmp a b) → r ≡ t → (le_z a b && le_z b a) ≡ t
+  eq_told e f = sym cmp_eq ∙ sym e ∙ f

@@ -1,32 +1,27 @@
 -- What the limits are made of is what the definition says.
-use Rattle.std.proofs.Common.{sym, ap, ◌∙◌, rules}
+use Rattle.std.proofs.Common.{◌∙◌, rules}
 use Rattle.numbers.specs.Order.{max_z, min_z}
 use Rattle.power.specs.Units.{grains}
-use Rattle.afrr.specs.Band.{over, largest, smallest, limits_by}
-use Rattle.afrr.proofs.Windows.{newest_part}
+use Rattle.afrr.specs.Band.{limits_by}
+use Rattle.afrr.proofs.Windows.{largest_part, smallest_part}
 use Rattle.afrr.proofs.Steps.{upper_sources, lower_sources}
 use Rattle.afrr.proofs.limits_of.Goals as goal
 
 pub lower-requires : goal.lower-requires
-unfolding smallest
 lower-requires c =
-    let recent = newest_part c.args.sheet.afrr_reaction c.args.state.now.past (search rules) in
-    let least = c.outermost.ensures min_z (λ a b r k. search rules) ∙ ap (over min_z) (sym recent) in
+    let least = c.outermost.ensures min_z (λ a b r k. search rules) ∙ smallest_part c.args.sheet.afrr_reaction c.args.state.now.past (search rules) in
     (c.per_kw-per.ensures.1, rw (least, c.gradient_of.ensures, c.percent.ensures, c.held.ensures.held, c.per_kw-per.ensures.0) (lower_sources _ c.requires.0 _ _ c.requires.1 c.requires.2))
 
 pub upper-requires : goal.upper-requires
-unfolding largest
 upper-requires c =
-    let recent = newest_part c.args.sheet.afrr_reaction c.args.state.now.past (search rules) in
-    let most = c.outermost-2.ensures max_z (λ a b r k. search rules) ∙ ap (over max_z) (sym recent) in
+    let most = c.outermost-2.ensures max_z (λ a b r k. search rules) ∙ largest_part c.args.sheet.afrr_reaction c.args.state.now.past (search rules) in
     (c.per_kw-per.ensures.1, rw (most, c.gradient_of.ensures, c.percent.ensures, c.held.ensures.held, c.per_kw-per.ensures.0) (upper_sources _ c.requires.0 _ _ c.requires.1 c.requires.2))
 
 pub returns : goal.returns
-unfolding limits_by largest smallest
+unfolding limits_by
 returns c =
-    let recent = newest_part c.args.sheet.afrr_reaction c.args.state.now.past (search rules) in
-    let least = c.outermost.ensures min_z (λ a b r k. search rules) ∙ ap (over min_z) (sym recent) in
-    let most = c.outermost-2.ensures max_z (λ a b r k. search rules) ∙ ap (over max_z) (sym recent) in
+    let least = c.outermost.ensures min_z (λ a b r k. search rules) ∙ smallest_part c.args.sheet.afrr_reaction c.args.state.now.past (search rules) in
+    let most = c.outermost-2.ensures max_z (λ a b r k. search rules) ∙ largest_part c.args.sheet.afrr_reaction c.args.state.now.past (search rules) in
     let down = rw (least, c.gradient_of.ensures, c.percent.ensures, c.held.ensures.held, c.per_kw-per.ensures.0) at c.lower.ensures in
     let up = rw (most, c.gradient_of.ensures, c.percent.ensures, c.held.ensures.held, c.per_kw-per.ensures.0) at c.upper.ensures in
     λ i. record { lower = grains (down i); upper = grains (up i) }
