@@ -22,7 +22,7 @@ fn put_block(buf: &mut [u8; SIZE], n: u32, seconds: &[u8])
     put_check(buf);
 }
 
-// Block n of a book, of the bytes of its seconds; refused is the first rule that stands against it, and the buffer stays as it was.
+// Block n of a book, of the bytes of its seconds. Where a rule stands against it, the first that does, and the buffer stays as it was.
 #[tactic(auto, unfolding(crate::specs::Writing::write_block_number))]
 pub fn write_block(buf: &mut [u8], n: u32, seconds: &[u8]) -> Result<(), Refusal>
     ensures { record { said = written_says result; buffer = buf.new } ≡ block_written buf.old n seconds.now }

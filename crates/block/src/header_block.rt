@@ -30,7 +30,7 @@ pub(crate) fn first_bytes() -> u32
     codec::read_u32(b"RLIW", 0)
 }
 
-// Refused is the first rule that the header breaks.
+// Owner and seconds of the header, or the first rule that it breaks.
 #[tactic(auto, using(std::proofs::lemmas::Bool::Decides::nat_tests), unfolding(crate::specs::Header::header_number))]
 pub fn read_header(s: &[u8]) -> Result<Header, Refusal>
     ensures { header_says result ≡ header_of s.now }

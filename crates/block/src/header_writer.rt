@@ -22,7 +22,7 @@ fn put_header(buf: &mut [u8; SIZE], owner: u8, seconds: u32)
     put_check(buf);
 }
 
-// The header of a book of `seconds` seconds; refused is the first rule that stands against it, and the buffer stays as it was.
+// The header of a book of `seconds` seconds. Where a rule stands against it, the first that does, and the buffer stays as it was.
 #[tactic(auto, unfolding(crate::specs::Writing::write_header_number))]
 pub fn write_header(buf: &mut [u8], owner: u8, seconds: u32) -> Result<(), Refusal>
     ensures { record { said = written_says result; buffer = buf.new } ≡ header_written buf.old owner seconds }

@@ -50,8 +50,8 @@ fn second_at(i: usize) -> usize
     BODY_AT + SECOND * i
 }
 
-// How many seconds are in block n, n being the number next in turn, under the header's `seconds`; refused is the first rule that the
-// block breaks. The seconds' bytes are parts of the caller's slice (`second`).
+// How many seconds block n has, read with the header's seconds and n, the number next in turn; or the first rule that it breaks. The
+// bytes of the seconds are parts of the caller's slice (`second`).
 #[tactic(auto, using(std::proofs::lemmas::Bool::Decides::nat_tests), unfolding(crate::specs::Block::block_number))]
 pub fn read_block(s: &[u8], seconds: u32, n: u32) -> Result<usize, Refusal>
     ensures { block_says result ≡ block_of s.now seconds n }

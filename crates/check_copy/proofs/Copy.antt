@@ -1,7 +1,7 @@
 -- A block that the reader accepts is its own copy, one that it refuses ends the copy; so block after block. Assumes nothing.
 use mathlib.Core.Path.{◌≡◌, refl, sym, ap, ◌∙◌}
 use mathlib.Core.List.{List, [], ◌++◌}
-use Prim.Native.Nat.{ℕ, suc, ◌≤◌}
+use Prim.Native.Nat.{ℕ, zero, suc, ◌≤◌}
 use native.Mathlib.Omega.{arith}
 use lib.ListN.{length}
 use Rattle.codec.specs.Little.{Bytes}
@@ -12,12 +12,13 @@ use Rattle.refusals.specs.declared.Refusal.{Refusal}
 use Rattle.refusals.specs.Refusals.{number_of}
 use Rattle.block.specs.declared.Header.{Header}
 use Rattle.block.specs.Said.{values, refused}
-use Rattle.block.specs.Layout.{body_of}
+use Rattle.block.specs.Layout.{BlockLayout}
+use Rattle.block.proofs.Claims as read
 use Rattle.block.specs.Places.{block_size, per_block}
 use Rattle.block.specs.Header.{owner_of, seconds_of, header_number, header_of, header_says}
 use Rattle.block.specs.Block.{count_of, block_number, block_of, block_says}
-use Rattle.block.specs.Writing.{Outcome, written_says, wrote, header_written, block_written}
-use Rattle.block.proofs.Taken.{header_fields, whole_block}
+use Rattle.block.specs.Writing.{Outcome, written_says, outcome_by}
+use Rattle.block.proofs.Taken.{TakenHeader, header_fields, whole_block}
 use Rattle.block.proofs.WriterClaims.{claims}
 use Rattle.check_copy.specs.Copy.{header_copy, block_copy, sent}
 
@@ -58,14 +59,14 @@ few b s x (Ok y) h is e =
     rw (← same) (omega (arith, f.2, f.0.most))
 few b s x (Err n) h is e = cc
 
-done : {x s : List ℕ} (r : Result (Unit {0}) Refusal) → ◌≡◌ {A = Outcome} (record { said = written_says r; buffer = x }) (wrote s) → IsOk r
-done (Ok u) e = refl
-done (Err n) e = let f : refused (number_of n) ≡ values [] = ap (λ (o : Outcome). o.said) e in cc
+-- a writer that had no number
+pub done : (b s : List ℕ) {x : List ℕ} (w : Result (Unit {0}) Refusal) (n : ℕ) → ◌≡◌ {A = Outcome} (record { said = written_says w; buffer = x }) (outcome_by n b s) → n ≡ 0 → IsOk w
+done b s (Ok u) n e z = refl
+done b s (Err m) zero e z = let f : refused (number_of m) ≡ values [] = ap (λ (o : Outcome). o.said) e in cc
+done b s (Err m) (suc n) e z = cc
 
-module _ (b s : List ℕ) {x : List ℕ} (w : Result (Unit {0}) Refusal) (size : length b ≡ block_size) (bytes : Bytes s) where
-  -- what was read can be written
-  pub header_done : (r : Result Header Refusal) (h : Header) → r ≡ Ok h → header_says r ≡ header_of s → ◌≡◌ {A = Outcome} (record { said = written_says w; buffer = x }) (header_written b h.owner h.seconds) → IsOk w
-  header_done r h is says e = done w (e ∙ claims.header_is_written b s h.owner h.seconds size bytes (sym says ∙ ap header_says is))
+pub read_fields : (s : List ℕ) (r : Result Header Refusal) (h : Header) → r ≡ Ok h → header_says r ≡ header_of s → TakenHeader s × (h.owner ≡ owner_of s) × (h.seconds ≡ seconds_of s)
+read_fields s r h is says = header_fields s h.owner h.seconds (sym says ∙ ap header_says is)
 
-  pub block_done : (t n k : ℕ) (body : List ℕ) (r : Result ℕ Refusal) → r ≡ Ok k → block_says r ≡ block_of s t n → body ≡ body_of s k → ◌≡◌ {A = Outcome} (record { said = written_says w; buffer = x }) (block_written b n body) → IsOk w
-  block_done t n k body r is says same e = done w (e ∙ ap (block_written b n) same ∙ claims.block_is_written b s t n k size bytes (sym says ∙ ap block_says is))
+pub read_layout : (s : List ℕ) (t n k : ℕ) (r : Result ℕ Refusal) → Bytes s → r ≡ Ok k → block_says r ≡ block_of s t n → BlockLayout s t n k
+read_layout s t n k r bytes is says = (read.claims).block_taken s t n k bytes (sym says ∙ ap block_says is)

@@ -72,5 +72,6 @@ fn main(rt: HostRuntime) {
         bytes: [0; SIZE],
         anew: [0; SIZE],
     };
+    // It ends without a word, however far it came.
     copier.send(&rt);
 }
