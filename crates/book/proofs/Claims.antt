@@ -7,7 +7,8 @@ use native.Mathlib.Numerals.{add-one}
 use native.Mathlib.Omega.{arith}
 use borrow.Author.Tests.{eqb-true}
 use lib.Dec.{eqb}
-use lib.IntN.{ℤ, ◌+ℤ◌, +ℤ_assoc, +ℤ_comm}
+use Rattle.std.proofs.lemmas.Int.{ints}
+use lib.IntN.{◌+ℤ◌}
 use lib.ListN.{length, length-map}
 use Rattle.sheet.specs.declared.Sheet.{Sheet}
 use Rattle.sheet.specs.Sheet.{InRange}
@@ -45,17 +46,10 @@ all_accepted (s ∷ ss) c h a = all_accepted ss c (grown c h s) (still_accepted 
 
 -- ---- the balance
 
-six : (a b c A B C : ℤ) → (A +ℤ a) +ℤ (B +ℤ b) +ℤ (C +ℤ c) ≡ (A +ℤ B +ℤ C) +ℤ (a +ℤ b +ℤ c)
-six a b c A B C = simp (+ℤ_assoc, left)
-  where
-    left : (x y z : ℤ) → x +ℤ (y +ℤ z) ≡ y +ℤ (x +ℤ z)
-    left x y z = sym (+ℤ_assoc x y z) ∙ ap (λ (n : ℤ). n +ℤ z) (+ℤ_comm x y) ∙ +ℤ_assoc y x z
-
 balance : (sh : Sheet) → InRange sh → (c : Closed) (h : History) → Accepted c h → sum_a sh c h +ℤ sum_b sh c h +ℤ sum_open sh c h ≡ sum_due h
 unfolding Accepted
 balance sh r c [] a = refl
-balance sh r c (s ∷ h) a =
-    six _ _ _ (sum_a sh c h) (sum_b sh c h) (sum_open sh c h) ∙ (λ i. balance sh r c h a.1 i +ℤ second_balance sh r c h s a.1 (cleared c h s a.0) i)
+balance sh r c (s ∷ h) a = omega (arith, ints, balance sh r c h a.1, second_balance sh r c h s a.1 (cleared c h s a.0))
 
 -- ---- the sums fit
 

@@ -1,0 +1,47 @@
+-- What a derived comparison of signed numbers answers. Assumes nothing.
+use mathlib.Core.Path.{◌≡◌, refl}
+use mathlib.Core.Bool.{Bool, true, false, cond, ◌&&◌}
+use native.Mathlib.Omega.{arith}
+use lib.IntN.{ℤ}
+use lib.Signed.{lt_z, le_z}
+use Rattle.std.proofs.Common.{Less, Equal, Greater, is_lt, is_le, is_eq, int_cmp}
+use Rattle.numbers.proofs.Test.{flags}
+
+module _ (a b : ℤ) where
+  pub cmp_lt : is_lt (int_cmp a b) ≡ lt_z a b
+  cmp_lt = go (lt_z a b) (lt_z b a)
+    where
+      go : (t u : Bool) → is_lt (cond t Less (cond u Greater Equal)) ≡ t
+      go true u = refl
+      go false true = refl
+      go false false = refl
+
+  pub cmp_le : is_le (int_cmp a b) ≡ le_z a b
+  cmp_le = go (lt_z a b) (lt_z b a) (le_z a b) refl refl refl
+    where
+      go : (t u v : Bool) → lt_z a b ≡ t → lt_z b a ≡ u → le_z a b ≡ v → is_le (cond t Less (cond u Greater Equal)) ≡ v
+      go true u true d e f = refl
+      go true u false d e f = absurd (omega (arith, flags))
+      go false true true d e f = absurd (omega (arith, flags))
+      go false true false d e f = refl
+      go false false true d e f = refl
+      go false false false d e f = absurd (omega (arith, flags))
+
+  pub cmp_eq : is_eq (int_cmp a b) ≡ (le_z b a && le_z a b)
+  cmp_eq = go (lt_z a b) (lt_z b a) (le_z b a) (le_z a b) refl refl refl refl
+    where
+      go :
+          (t u v w : Bool) →
+          lt_z a b ≡ t →
+          lt_z b a ≡ u →
+          le_z b a ≡ v →
+          le_z a b ≡ w →
+          is_eq (cond t Less (cond u Greater Equal)) ≡ (v && w)
+      go true u true w d e f g = absurd (omega (arith, flags))
+      go true u false w d e f g = refl
+      go false true true true d e f g = absurd (omega (arith, flags))
+      go false true true false d e f g = refl
+      go false true false w d e f g = absurd (omega (arith, flags))
+      go false false true true d e f g = refl
+      go false false true false d e f g = absurd (omega (arith, flags))
+      go false false false w d e f g = absurd (omega (arith, flags))
