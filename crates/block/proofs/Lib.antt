@@ -1,4 +1,3 @@
-pub mod Tests
 pub mod Answers
 pub mod Parts
 pub mod Puts

@@ -1,13 +1,13 @@
--- A part of a list, byte by byte, and the two folds over one; parts put together again. Assumes nothing.
+-- A part of a list, byte by byte; parts put together again. Assumes nothing.
 use mathlib.Core.Path.{◌≡◌, refl, sym, ap, ◌∙◌}
-use mathlib.Core.Bool.{Bool, true, false, ◌&&◌}
+use mathlib.Core.Bool.{true}
 use mathlib.Core.List.{List, [], ◌∷◌, ◌++◌}
-use Prim.Native.Nat.{ℕ, zero, suc, ◌+◌, ◌*◌, ◌-◌, ◌≤◌, ◌<◌}
+use Prim.Native.Nat.{ℕ, zero, suc, ◌+◌, ◌-◌, ◌≤◌, ◌<◌}
 use native.Mathlib.Omega.{arith}
 use lib.ListN.{length, get_or, length-take, length-drop, length-append}
 use lib.Dec.{eqb}
 use lib.Seq.{drop-cons, take-add, drop-drop, take_all, take_at, get_or-append-add}
-use borrow.Author.Tests.{eq-eqb, ne_eqb, eqb-true}
+use borrow.Author.Tests.{eqb-true}
 use Rattle.codec.specs.Little.{u32_at, le4, Bytes}
 use Rattle.codec.proofs.Little.{le4_value, four_bytes}
 use Rattle.block.specs.Places.{block_size, check_at}
@@ -27,27 +27,6 @@ part_cons s i end h k =
     let n : i + 1 ≡ suc i = omega arith in
     let l : i < length s = omega arith in
     rw (e, drop-cons s i 0 l, n)
-
--- the check sum's terms from byte i on: one, and those from byte i + 1 on
-pub weights_step : (s : List ℕ) (i end : ℕ) → i < end → end ≤ length s → weights i (part s i end) ≡ (i + 1) * get_or s i 0 + weights (i + 1) (part s (i + 1) end)
-unfolding weights
-weights_step s i end h k = ap (weights i) (part_cons s i end h k)
-
-pub weights_none : (s : List ℕ) (i end : ℕ) → end ≤ i → weights i (part s i end) ≡ 0
-unfolding weights
-weights_none s i end h = ap (weights i) (part_none s i end h)
-
-pub zero_next : (s : List ℕ) (i end : ℕ) → i < end → end ≤ length s → get_or s i 0 ≡ 0 → all_zero (part s i end) ≡ all_zero (part s (i + 1) end)
-unfolding all_zero
-zero_next s i end h k e = ap all_zero (part_cons s i end h k) ∙ ap (λ (t : Bool). t && all_zero (part s (i + 1) end)) (eq-eqb _ _ e)
-
-pub zero_fails : (s : List ℕ) (i end : ℕ) → i < end → end ≤ length s → (get_or s i 0 ≡ 0 → ⊥) → all_zero (part s i end) ≡ false
-unfolding all_zero
-zero_fails s i end h k e = ap all_zero (part_cons s i end h k) ∙ ap (λ (t : Bool). t && all_zero (part s (i + 1) end)) (ne_eqb _ _ e)
-
-pub zero_none : (s : List ℕ) (i end : ℕ) → end ≤ i → all_zero (part s i end) ≡ true
-unfolding all_zero
-zero_none s i end h = ap all_zero (part_none s i end h)
 
 -- ---- parts of a list put together
 

@@ -1,36 +1,19 @@
--- Zeros put one after the other, and a block put together of its front and its check. Assumes nothing.
+-- A block put together of its fields and its check. Assumes nothing.
 use mathlib.Core.Path.{◌≡◌, ap, ◌∙◌}
 use mathlib.Core.List.{List, [], ◌∷◌, ◌++◌}
 use Prim.Native.Nat.{ℕ, ◌+◌, ◌*◌, ◌-◌, ◌≤◌}
 use native.Mathlib.Omega.{arith}
 use lib.Seq.{take_at}
-use lib.ListN.{length, take, drop, replicate-append-replicate, length-append, length-replicate, drop_of_length-le}
+use lib.ListN.{length, take, drop, length-append, length-replicate, drop_of_length-le}
 use Rattle.codec.specs.Little.{u32_at, le2, le4}
 use Rattle.codec.specs.Put.{Put}
-use Rattle.codec.proofs.Puts.{both, loosen, none}
+use Rattle.codec.proofs.Puts.{both, loosen}
 use Rattle.block.specs.Places.{block_size, check_at, version, header_end, count_end, body_at, second_size, per_block}
 use Rattle.block.specs.Bytes.{part, zeros}
 use Rattle.block.specs.Check.{check_of}
 use Rattle.block.specs.Header.{name}
 use Rattle.block.specs.Layout.{closed, header_front, count_in, block_front}
 use Rattle.block.proofs.Parts.{check_of_front}
-
--- no zero yet, one more, and all of them
-pub zero_none : (b : List ℕ) (from : ℕ) → from ≤ length b → Put (from - from) b b from from (zeros (from - from))
-zero_none b from h =
-    let e : from - from ≡ 0 = omega arith in
-    rw e (none b from h)
-
-pub zero_more : {from at r : ℕ} {b c e : List ℕ} → from ≤ at → Put (at - from) b c from at (zeros (at - from)) → Put 1 c e at r (0 ∷ []) → Put (r - from) b e from r (zeros (r - from))
-zero_more {from} {at} {r} {b} {c} {e} h f g =
-    let n : r - from ≡ (at - from) + 1 = omega (arith, g.next) in
-    let z : zeros (at - from) ++ (0 ∷ []) ≡ zeros ((at - from) + 1) = replicate-append-replicate (at - from) 1 0 in
-    rw n (rw z at (both f g))
-
-pub zero_all : {from end at : ℕ} {b e : List ℕ} → at ≤ end → end ≤ at → Put (at - from) b e from at (zeros (at - from)) → Put (end - from) b e from at (zeros (end - from))
-zero_all {from} {end} {at} h k p =
-    let n : end ≡ at = omega arith in
-    rw n p
 
 -- the check put after the bytes before it
 pub checked : {r : ℕ} {b e : List ℕ} → length b ≡ block_size → Put 4 b e check_at r (le4 (check_of b)) → e ≡ closed (part b 0 check_at)

@@ -5,7 +5,7 @@ use mathlib.Core.List.{List, [], ◌∷◌}
 use Prim.Native.Nat.{ℕ, ◌≤◌, ◌<◌}
 use native.Mathlib.Omega.{arith}
 use lib.ListN.{length, get_or}
-use borrow.Author.Tests.{eqb-false, ltb-false, not-false}
+use borrow.Author.Tests.{eqb-false, ltb-false, not-false, ne_eqb, le-ltb}
 use Rattle.codec.specs.Little.{u16_at, u32_at}
 use Rattle.record.specs.Record.{most_seconds, all_kinds}
 use Rattle.block.specs.Places.{block_size, check_at, name_at, version_at, version, spare_at, header_end, number_at, count_end, per_block, body_at, second_at}
@@ -14,9 +14,8 @@ use Rattle.block.specs.Check.{check_of}
 use Rattle.block.specs.Said.{values}
 use Rattle.block.specs.Header.{name, owner_of, seconds_of, header_rules, header_number, header_of}
 use Rattle.block.specs.Block.{count_of, due_in, block_rules, block_number, block_of}
-use Rattle.block.proofs.Tests.{unequal, not_less, agrees}
 use Rattle.numbers.proofs.Rules.{none, no_number}
-use Rattle.block.proofs.Answers.{accepted, same, positive}
+use Rattle.block.proofs.Answers.{accepted, same, agree}
 
 pub record TakenHeader (s : List ℕ) : Type 0 where
   pub len : length s ≡ block_size
@@ -39,7 +38,7 @@ taken_header s e =
       first_bytes = same _ _ r.1.1.0;
       version_is = same _ _ r.1.1.1.0;
       owners = ltb-false _ _ r.1.1.1.1.0;
-      some = positive _ (eqb-false _ _ r.1.1.1.1.1.0);
+      some = omega (arith, eqb-false _ _ r.1.1.1.1.1.0);
       most = ltb-false _ _ r.1.1.1.1.1.1.0;
       spare_byte = same _ _ r.1.1.1.1.1.1.1.0;
       spare = not-false _ r.1.1.1.1.1.1.1.1.0;
@@ -49,7 +48,7 @@ pub header_zero : (s : List ℕ) → TakenHeader s → header_number s ≡ 0
 unfolding header_number
 header_zero s t =
     let some : seconds_of s ≡ 0 → ⊥ = λ e. omega (arith, t.some) in
-    no_number (header_rules s) (agrees t.len refl refl, (agrees t.check refl refl, (agrees t.first_bytes refl refl, (agrees t.version_is refl refl, (not_less t.owners refl refl, (unequal some refl refl, (not_less t.most refl refl, (agrees t.spare_byte refl refl, (ap not t.spare, tt)))))))))
+    no_number (header_rules s) (agree t.len, (agree t.check, (agree t.first_bytes, (agree t.version_is, (le-ltb _ _ t.owners, (ne_eqb _ _ some, (le-ltb _ _ t.most, (agree t.spare_byte, (ap not t.spare, tt)))))))))
 
 pub record TakenBlock (s : List ℕ) (seconds n : ℕ) : Type 0 where
   pub len : length s ≡ block_size
@@ -69,8 +68,8 @@ taken_block s seconds n e =
       len = same _ _ r.0;
       check = same _ _ r.1.0;
       number = same _ _ r.1.1.0;
-      from_one = positive _ (eqb-false _ _ r.1.1.1.0);
-      some = positive _ (eqb-false _ _ r.1.1.1.1.0);
+      from_one = omega (arith, eqb-false _ _ r.1.1.1.0);
+      some = omega (arith, eqb-false _ _ r.1.1.1.1.0);
       count = same _ _ r.1.1.1.1.1.0;
       spare = not-false _ r.1.1.1.1.1.1.0;
       unused = not-false _ r.1.1.1.1.1.1.1.0;
@@ -81,7 +80,7 @@ unfolding block_number
 block_zero s seconds n t =
     let one : n ≡ 0 → ⊥ = λ e. omega (arith, t.from_one) in
     let some : due_in seconds n ≡ 0 → ⊥ = λ e. omega (arith, t.some) in
-    no_number (block_rules s seconds n) (agrees t.len refl refl, (agrees t.check refl refl, (agrees t.number refl refl, (unequal one refl refl, (unequal some refl refl, (agrees t.count refl refl, (ap not t.spare, (ap not t.unused, tt))))))))
+    no_number (block_rules s seconds n) (agree t.len, (agree t.check, (agree t.number, (ne_eqb _ _ one, (ne_eqb _ _ some, (agree t.count, (ap not t.spare, (ap not t.unused, tt))))))))
 
 pub header_fields : (s : List ℕ) (o t : ℕ) → header_of s ≡ values (o ∷ t ∷ []) → TakenHeader s × (o ≡ owner_of s) × (t ≡ seconds_of s)
 header_fields s o t e =

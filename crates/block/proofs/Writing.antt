@@ -3,26 +3,13 @@ use mathlib.Core.Path.{◌≡◌, refl, ap}
 use mathlib.Core.List.{List, []}
 use Prim.Native.Nat.{ℕ, zero, suc, ◌/◌, ◌%◌, ◌≤◌, ◌<◌}
 use native.Mathlib.Omega.{arith}
-use borrow.Author.Tests.{eqb-false, ltb-false}
+use borrow.Author.Tests.{eqb-false, ltb-false, ne_eqb, le-ltb}
 use Rattle.record.specs.Record.{most_seconds, all_kinds}
 use Rattle.numbers.proofs.Rules.{none, no_number}
 use Rattle.block.specs.Places.{block_size, per_block, second_size}
-use Rattle.block.specs.Said.{Said, values, refused, answered}
-use Rattle.block.specs.Writing.{buffer_by, Outcome, outcome_by, wrote, write_header_rules, write_header_number, write_block_rules, write_block_number}
-use Rattle.block.proofs.Answers.{same, positive}
-use Rattle.block.proofs.Tests.{unequal, not_less, agrees}
-
--- the buffer with a block written, and as found
-pub filled : (n : ℕ) (b : List ℕ) {s e : List ℕ} → n ≡ 0 → e ≡ s → e ≡ buffer_by n b s
-filled n b h f = rw (h, f)
-
-pub as_found : (n : ℕ) (b s : List ℕ) → (n ≡ 0 → ⊥) → b ≡ buffer_by n b s
-as_found zero b s h = absurd (h refl)
-as_found (suc n) b s h = refl
-
--- answer and buffer by the number m that the code has
-pub by_number : {r : Said} {n m : ℕ} {e : List ℕ} (b s : List ℕ) → m ≡ n → r ≡ answered m [] → e ≡ buffer_by m b s → record { said = r; buffer = e } ≡ outcome_by n b s
-by_number b s h p q = rw (p, q, h)
+use Rattle.block.specs.Said.{values, refused}
+use Rattle.block.specs.Writing.{Outcome, outcome_by, wrote, write_header_rules, write_header_number, write_block_rules, write_block_number}
+use Rattle.block.proofs.Answers.{same, agree}
 
 -- a block that was written
 pub written : (n : ℕ) (b s e : List ℕ) → n ≡ 0 → e ≡ s → wrote e ≡ outcome_by n b s
@@ -47,7 +34,7 @@ fit_header len owner seconds e =
     record {
       len_is = same _ _ r.0;
       owners = ltb-false _ _ r.1.0;
-      some = positive _ (eqb-false _ _ r.1.1.0);
+      some = omega (arith, eqb-false _ _ r.1.1.0);
       most = ltb-false _ _ r.1.1.1.0;
     }
 
@@ -55,7 +42,7 @@ pub header_fits : (len owner seconds : ℕ) → FitHeader len owner seconds → 
 unfolding write_header_number
 header_fits len owner seconds f =
     let some : seconds ≡ 0 → ⊥ = λ e. omega (arith, f.some) in
-    no_number (write_header_rules len owner seconds) (agrees f.len_is refl refl, (not_less f.owners refl refl, (unequal some refl refl, (not_less f.most refl refl, tt))))
+    no_number (write_header_rules len owner seconds) (agree f.len_is, (le-ltb _ _ f.owners, (ne_eqb _ _ some, (le-ltb _ _ f.most, tt))))
 
 pub record FitBlock (len n bytes : ℕ) : Type 0 where
   pub len_is : len ≡ block_size
@@ -70,9 +57,9 @@ fit_block len n bytes e =
     let r = none (write_block_rules len n bytes) refl e in
     record {
       len_is = same _ _ r.0;
-      number = positive _ (eqb-false _ _ r.1.0);
+      number = omega (arith, eqb-false _ _ r.1.0);
       whole = same _ _ r.1.1.0;
-      some = positive _ (eqb-false _ _ r.1.1.1.0);
+      some = omega (arith, eqb-false _ _ r.1.1.1.0);
       few = ltb-false _ _ r.1.1.1.1.0;
     }
 
@@ -81,4 +68,4 @@ unfolding write_block_number
 block_fits len n bytes f =
     let one : n ≡ 0 → ⊥ = λ e. omega (arith, f.number) in
     let some : bytes / second_size ≡ 0 → ⊥ = λ e. omega (arith, f.some) in
-    no_number (write_block_rules len n bytes) (agrees f.len_is refl refl, (unequal one refl refl, (agrees f.whole refl refl, (unequal some refl refl, (not_less f.few refl refl, tt)))))
+    no_number (write_block_rules len n bytes) (agree f.len_is, (ne_eqb _ _ one, (agree f.whole, (ne_eqb _ _ some, (le-ltb _ _ f.few, tt)))))

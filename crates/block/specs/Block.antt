@@ -1,8 +1,8 @@
 -- "Others: 0-3 block number from 1, 4 seconds in it (4, fewer only in the last), from 16 on 108 bytes a second: U, A, B. All else is 0."
 -- (01, "Blocks and text")
-use Rattle.std.specs.Prelude.{◌≡◌, ℕ, zero, suc, ◌*◌, ◌-◌, min, not, List, [], ◌∷◌, length, get_or, take, drop, eqb}
-use Rattle.block.specs.declared.Block.{Block}
-use Rattle.block.specs.declared.Block.TheVariants.{Seconds, Refused}
+use Rattle.std.specs.Prelude.{◌≡◌, ℕ, zero, suc, ◌*◌, ◌-◌, min, not, List, [], ◌∷◌, length, get_or, take, drop, eqb, Result, Ok, Err}
+use Rattle.refusals.specs.declared.Refusal.{Refusal}
+use Rattle.refusals.specs.Refusals.{number_of}
 use Rattle.codec.specs.Little.{u32_at}
 use Rattle.block.specs.Places.{block_size, check_at, number_at, count_at, count_end, per_block, body_at, second_size, second_at}
 use Rattle.block.specs.Bytes.{part, all_zero}
@@ -38,9 +38,9 @@ abbrev pub block_of : List ℕ → ℕ → ℕ → Said
 block_of s seconds n = answered (block_number s seconds n) (count_of s ∷ [])
 
 -- what each case of its answer says
-abbrev pub block_says : Block → Said
-block_says (Seconds k) = values (k ∷ [])
-block_says (Refused n) = refused n
+abbrev pub block_says : Result ℕ Refusal → Said
+block_says (Ok k) = values (k ∷ [])
+block_says (Err e) = refused (number_of e)
 
 -- the bytes of second i of a block: U, A, B
 abbrev pub second_of : List ℕ → ℕ → List ℕ

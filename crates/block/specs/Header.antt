@@ -1,8 +1,9 @@
 -- "Header: 0-3 'RLIW', 4-5 version 1, 6 owner, 8-11 seconds in the book. .. All else is 0." (01, "Blocks and text")
-use Rattle.std.specs.Prelude.{ℕ, not, List, [], ◌∷◌, length, get_or, eqb, ltb}
+use Rattle.std.specs.Prelude.{ℕ, not, List, [], ◌∷◌, length, get_or, eqb, ltb, Result, Ok, Err}
 use Prim.Native.Char.{code}
+use Rattle.refusals.specs.declared.Refusal.{Refusal}
+use Rattle.refusals.specs.Refusals.{number_of}
 use Rattle.block.specs.declared.Header.{Header}
-use Rattle.block.specs.declared.Header.TheVariants.{Fields, Refused}
 use Rattle.codec.specs.Little.{u16_at, u32_at}
 use Rattle.record.specs.Record.{most_seconds, all_kinds}
 use Rattle.block.specs.Places.{block_size, check_at, name_at, version_at, version, owner_at, spare_at, book_seconds_at, header_end}
@@ -43,6 +44,6 @@ abbrev pub header_of : List ℕ → Said
 header_of s = answered (header_number s) (owner_of s ∷ seconds_of s ∷ [])
 
 -- what each case of its answer says
-abbrev pub header_says : Header → Said
-header_says (Fields owner seconds) = values (owner ∷ seconds ∷ [])
-header_says (Refused n) = refused n
+abbrev pub header_says : Result Header Refusal → Said
+header_says (Ok h) = values (h.owner ∷ h.seconds ∷ [])
+header_says (Err e) = refused (number_of e)

@@ -1,7 +1,7 @@
 -- What the writers answer and leave in their buffer (02, W1).
-use Rattle.std.specs.Prelude.{ℕ, zero, suc, ◌/◌, ◌%◌, List, [], ◌∷◌, length, eqb, ltb}
-use Rattle.block.specs.declared.Written.{Written}
-use Rattle.block.specs.declared.Written.TheVariants.{Done, Refused}
+use Rattle.std.specs.Prelude.{ℕ, zero, suc, ◌/◌, ◌%◌, List, [], ◌∷◌, length, eqb, ltb, Result, Ok, Err}
+use Rattle.refusals.specs.declared.Refusal.{Refusal}
+use Rattle.refusals.specs.Refusals.{number_of}
 use Rattle.record.specs.Record.{most_seconds, all_kinds}
 use Rattle.numbers.specs.Rules.{Rule, refuse, first, differ}
 use Rattle.block.specs.Places.{block_size, per_block, second_size}
@@ -9,9 +9,9 @@ use Rattle.block.specs.Said.{Said, values, refused, answered}
 use Rattle.block.specs.Layout.{header_bytes, block_bytes}
 
 -- what each case of a writer's answer says
-abbrev pub written_says : Written → Said
-written_says Done = values []
-written_says (Refused n) = refused n
+abbrev pub written_says : Result (Unit {0}) Refusal → Said
+written_says (Ok x) = values []
+written_says (Err e) = refused (number_of e)
 
 -- "a refusal leaves the buffer as found": b; else it is s
 abbrev pub buffer_by : ℕ → List ℕ → List ℕ → List ℕ

@@ -2,37 +2,16 @@
 ghost use Rattle.std.specs.Prelude.{◌≡◌, ◌*◌, ◌≤◌, length};
 ghost use Rattle.block.specs.Places.{block_size, per_block, second_size};
 ghost use Rattle.block.specs.Layout.{block_bytes};
-ghost use Rattle.block.specs.Writing.{written_says, write_block_number, block_written};
+ghost use Rattle.block.specs.Writing.{written_says, block_written};
 
 use crate::bytes::{put_check, put_zeros};
 use crate::later_block::{BODY_AT, PER_BLOCK, SECOND};
-use crate::{CHECK_AT, SIZE, Written, answer_by};
-
-// The number of the first rule that stands against this block, or 0.
-fn write_block_number(len: usize, n: u32, bytes: usize) -> u8
-    ensures { result ≡ write_block_number len n bytes }
-{
-    if len != SIZE {
-        return 12;
-    }
-    if n == 0 {
-        return 19;
-    }
-    if bytes % SECOND != 0 {
-        return 23;
-    }
-    if bytes / SECOND == 0 {
-        return 23;
-    }
-    if bytes / SECOND > PER_BLOCK {
-        return 23;
-    }
-    0
-}
+use crate::{CHECK_AT, SIZE};
+use refusals::Refusal;
 
 // A later block's fields and their check.
-fn put_block(buf: &mut [u8], n: u32, seconds: &[u8]) -> usize
-    requires { (length buf.old ≡ block_size) × (length seconds.now ≤ second_size * per_block) }
+fn put_block(buf: &mut [u8; SIZE], n: u32, seconds: &[u8])
+    requires { length seconds.now ≤ second_size * per_block }
     ensures { buf.new ≡ block_bytes n seconds.now }
 {
     let at = codec::put_u32(buf, 0, n);
@@ -40,16 +19,22 @@ fn put_block(buf: &mut [u8], n: u32, seconds: &[u8]) -> usize
     let at = put_zeros(buf, at, BODY_AT);
     let at = codec::put_bytes(buf, at, seconds);
     put_zeros(buf, at, CHECK_AT);
-    put_check(buf)
+    put_check(buf);
 }
 
-// Block n of a book, of the bytes of its seconds.
-pub fn write_block(buf: &mut [u8], n: u32, seconds: &[u8]) -> Written
+// Block n of a book, of the bytes of its seconds. Where a rule stands against it, the first that does, and the buffer stays as it was.
+#[tactic(auto, unfolding(crate::specs::Writing::write_block_number))]
+pub fn write_block(buf: &mut [u8], n: u32, seconds: &[u8]) -> Result<(), Refusal>
     ensures { record { said = written_says result; buffer = buf.new } ≡ block_written buf.old n seconds.now }
 {
-    let number = write_block_number(buf.len(), n, seconds.len());
-    if number == 0 {
-        put_block(buf, n, seconds);
+    let block = buf.as_mut_array().ok_or(Refusal::Length)?;
+    if n == 0 {
+        return Err(Refusal::BlockNumber);
     }
-    answer_by(number)
+    let count = seconds.len() / SECOND;
+    if seconds.len() % SECOND != 0 || count == 0 || count > PER_BLOCK {
+        return Err(Refusal::SecondsBytes);
+    }
+    put_block(block, n, seconds);
+    Ok(())
 }

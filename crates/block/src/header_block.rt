@@ -1,10 +1,11 @@
 // The header: 0-3 'RLIW', 4-5 version 1, 6 owner, 8-11 seconds in the book. All else is 0.
 ghost use Rattle.std.specs.Prelude.{◌≡◌};
 ghost use Rattle.codec.specs.Little.{u32_at};
-ghost use Rattle.block.specs.Header.{name, header_number, header_of, header_says};
+ghost use Rattle.block.specs.Header.{name, header_of, header_says};
 
 use crate::bytes::{check_of, is_zero};
 use crate::{CHECK_AT, Header, SIZE};
+use refusals::Refusal;
 
 const NAME_AT: usize = 0;
 
@@ -29,50 +30,33 @@ pub(crate) fn first_bytes() -> u32
     codec::read_u32(b"RLIW", 0)
 }
 
-// The number of the first rule that the header breaks, or 0.
-fn header_number(s: &[u8]) -> u8
-    ensures { result ≡ header_number s.now }
-{
-    if s.len() != SIZE {
-        return 12;
-    }
-    if codec::read_u32(s, CHECK_AT) != check_of(s) {
-        return 13;
-    }
-    if codec::read_u32(s, NAME_AT) != first_bytes() {
-        return 14;
-    }
-    if codec::read_u16(s, VERSION_AT) != VERSION {
-        return 15;
-    }
-    if s[OWNER_AT] > record::ALL_KINDS {
-        return 16;
-    }
-    let seconds = codec::read_u32(s, BOOK_SECONDS_AT);
-    if seconds == 0 {
-        return 17;
-    }
-    if seconds > record::MOST_SECONDS {
-        return 17;
-    }
-    if s[SPARE_AT] != 0 {
-        return 18;
-    }
-    if !is_zero(s, END, CHECK_AT) {
-        return 18;
-    }
-    0
-}
-
-pub fn read_header(s: &[u8]) -> Header
+// Owner and seconds of the header, or the first rule that it breaks.
+#[tactic(auto, using(std::proofs::lemmas::Bool::Decides::nat_tests), unfolding(crate::specs::Header::header_number))]
+pub fn read_header(s: &[u8]) -> Result<Header, Refusal>
     ensures { header_says result ≡ header_of s.now }
 {
-    let number = header_number(s);
-    if number != 0 {
-        return Header::Refused(number);
+    if s.len() != SIZE {
+        return Err(Refusal::Length);
     }
-    Header::Fields {
-        owner: s[OWNER_AT],
-        seconds: codec::read_u32(s, BOOK_SECONDS_AT),
+    if codec::read_u32(s, CHECK_AT) != check_of(s) {
+        return Err(Refusal::Check);
     }
+    if codec::read_u32(s, NAME_AT) != first_bytes() {
+        return Err(Refusal::FirstBytes);
+    }
+    if codec::read_u16(s, VERSION_AT) != VERSION {
+        return Err(Refusal::Version);
+    }
+    let owner = s[OWNER_AT];
+    if owner > record::ALL_KINDS {
+        return Err(Refusal::Owner);
+    }
+    let seconds = codec::read_u32(s, BOOK_SECONDS_AT);
+    if seconds == 0 || seconds > record::MOST_SECONDS {
+        return Err(Refusal::BookSeconds);
+    }
+    if s[SPARE_AT] != 0 || !is_zero(&s[END..CHECK_AT]) {
+        return Err(Refusal::SpareByte);
+    }
+    Ok(Header { owner, seconds })
 }

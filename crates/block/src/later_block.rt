@@ -2,12 +2,13 @@
 ghost use Rattle.std.specs.Prelude.{◌≡◌, ◌≤◌, ◌<◌, length};
 ghost use Rattle.record.specs.Record.{most_seconds};
 ghost use Rattle.block.specs.Places.{block_size, per_block, second_at};
-ghost use Rattle.block.specs.Block.{due_in, block_number, block_of, block_says, SecondIn};
+ghost use Rattle.block.specs.Block.{due_in, block_of, block_says, SecondIn};
 ghost use Rattle.block.specs.Layout.{body_of};
 ghost use Rattle.block.specs.Book.{last_block};
 
-use crate::bytes::{check_of, is_zero, size};
-use crate::{Block, CHECK_AT, SIZE};
+use crate::bytes::{check_of, is_zero};
+use crate::{CHECK_AT, SIZE};
+use refusals::Refusal;
 
 const NUMBER_AT: usize = 0;
 
@@ -28,8 +29,7 @@ pub fn last_block(seconds: u32) -> u32
     requires { seconds ≤ most_seconds }
     ensures { (result ≡ last_block seconds) × (result ≤ most_seconds) }
 {
-    let most = PER_BLOCK as u32;
-    (seconds + (most - 1)) / most
+    seconds.div_ceil(PER_BLOCK as u32)
 }
 
 // How many seconds block n of the book has: 4, fewer in the last, none after it.
@@ -37,16 +37,9 @@ fn due(seconds: u32, n: u32) -> usize
     requires { 0 < n }
     ensures { (result ≡ due_in seconds n) × (result ≤ per_block) }
 {
-    let all = seconds as usize;
     let before = PER_BLOCK * (n as usize - 1);
-    if all <= before {
-        return 0;
-    }
-    if all - before < PER_BLOCK {
-        all - before
-    } else {
-        PER_BLOCK
-    }
+    let left = (seconds as usize).saturating_sub(before);
+    left.min(PER_BLOCK)
 }
 
 // The place of second i, counted from 0; past the last second, that of the unused ones.
@@ -57,47 +50,32 @@ fn second_at(i: usize) -> usize
     BODY_AT + SECOND * i
 }
 
-// The number of the first rule that block n breaks, or 0.
-fn block_number(s: &[u8], seconds: u32, n: u32) -> u8
-    ensures { result ≡ block_number s.now seconds n }
+// How many seconds block n has, read with the header's seconds and n, the number next in turn; or the first rule that it breaks. The
+// bytes of the seconds are parts of the caller's slice (`second`).
+#[tactic(auto, using(std::proofs::lemmas::Bool::Decides::nat_tests), unfolding(crate::specs::Block::block_number))]
+pub fn read_block(s: &[u8], seconds: u32, n: u32) -> Result<usize, Refusal>
+    ensures { block_says result ≡ block_of s.now seconds n }
 {
     if s.len() != SIZE {
-        return 12;
+        return Err(Refusal::Length);
     }
     if codec::read_u32(s, CHECK_AT) != check_of(s) {
-        return 13;
+        return Err(Refusal::Check);
     }
-    if codec::read_u32(s, NUMBER_AT) != n {
-        return 19;
-    }
-    if n == 0 {
-        return 19;
+    if codec::read_u32(s, NUMBER_AT) != n || n == 0 {
+        return Err(Refusal::BlockNumber);
     }
     let count = due(seconds, n);
     if count == 0 {
-        return 19;
+        return Err(Refusal::BlockNumber);
     }
-    if size(s[COUNT_AT]) != count {
-        return 20;
+    if usize::from(s[COUNT_AT]) != count {
+        return Err(Refusal::BlockSeconds);
     }
-    if !is_zero(s, COUNT_END, BODY_AT) {
-        return 18;
+    if !is_zero(&s[COUNT_END..BODY_AT]) || !is_zero(&s[second_at(count)..CHECK_AT]) {
+        return Err(Refusal::SpareByte);
     }
-    if !is_zero(s, second_at(count), CHECK_AT) {
-        return 18;
-    }
-    0
-}
-
-// A later block, read with the header's seconds and n, the number next in turn.
-pub fn read_block(s: &[u8], seconds: u32, n: u32) -> Block
-    ensures { block_says result ≡ block_of s.now seconds n }
-{
-    let number = block_number(s, seconds, n);
-    if number != 0 {
-        return Block::Refused(number);
-    }
-    Block::Seconds(size(s[COUNT_AT]))
+    Ok(count)
 }
 
 // The bytes of second i of a block, counted from 0: U, A, B.
@@ -105,9 +83,7 @@ pub fn second(s: &[u8], i: usize) -> &[u8]
     requires { (length s.now ≡ block_size) × (i < per_block) }
     ensures { SecondIn s.now i result.now }
 {
-    let from = second_at(i);
-    let end = from + SECOND;
-    &s[from..end]
+    &s[second_at(i)..second_at(i + 1)]
 }
 
 // The bytes of a block's first `count` seconds.
@@ -115,6 +91,5 @@ pub fn body(s: &[u8], count: usize) -> &[u8]
     requires { (length s.now ≡ block_size) × (count ≤ per_block) }
     ensures { result.now ≡ body_of s.now count }
 {
-    let end = second_at(count);
-    &s[BODY_AT..end]
+    &s[BODY_AT..second_at(count)]
 }

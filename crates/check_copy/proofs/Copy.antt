@@ -1,20 +1,24 @@
 -- A block that the reader accepts is its own copy, one that it refuses ends the copy; so block after block. Assumes nothing.
 use mathlib.Core.Path.{◌≡◌, refl, sym, ap, ◌∙◌}
 use mathlib.Core.List.{List, [], ◌++◌}
-use Prim.Native.Nat.{ℕ, suc, ◌≤◌}
+use Prim.Native.Nat.{ℕ, zero, suc, ◌≤◌}
 use native.Mathlib.Omega.{arith}
 use lib.ListN.{length}
 use Rattle.codec.specs.Little.{Bytes}
 use Rattle.record.specs.Record.{most_seconds}
+use Rattle.std.specs.Prelude.{Result, Ok, Err, IsOk, Some}
+use Rattle.std.specs.Result.{result_ok}
+use Rattle.refusals.specs.declared.Refusal.{Refusal}
+use Rattle.refusals.specs.Refusals.{number_of}
 use Rattle.block.specs.declared.Header.{Header}
-use Rattle.block.specs.declared.Header.TheVariants as header
-use Rattle.block.specs.declared.Block.{Block}
-use Rattle.block.specs.declared.Block.TheVariants as block
+use Rattle.block.specs.Said.{values, refused}
+use Rattle.block.specs.Layout.{BlockLayout}
+use Rattle.block.proofs.Claims as read
 use Rattle.block.specs.Places.{block_size, per_block}
-use Rattle.block.specs.Header.{owner_of, seconds_of, header_number, header_says}
+use Rattle.block.specs.Header.{owner_of, seconds_of, header_number, header_of, header_says}
 use Rattle.block.specs.Block.{count_of, block_number, block_of, block_says}
-use Rattle.block.specs.Writing.{Outcome}
-use Rattle.block.proofs.Taken.{header_fields, whole_block}
+use Rattle.block.specs.Writing.{Outcome, written_says, outcome_by}
+use Rattle.block.proofs.Taken.{TakenHeader, header_fields, whole_block}
 use Rattle.block.proofs.WriterClaims.{claims}
 use Rattle.check_copy.specs.Copy.{header_copy, block_copy, sent}
 
@@ -42,14 +46,27 @@ header_ends b s rest e = rw e refl
 pub block_ends : (b s rest : List ℕ) (t n : ℕ) {m : ℕ} → block_number s t n ≡ suc m → sent (block_copy b s t n) rest ≡ []
 block_ends b s rest t n e = rw e refl
 
--- ---- from the reader's answer
+-- ---- from the reader's and the writer's answers
 
-module _ (b s : List ℕ) where
-  -- what a caller needs to take the seconds out
-  pub whole : (t n : ℕ) (r : Block) (k : ℕ) → r ≡ block.Seconds k → block_says r ≡ block_of s t n → (length s ≡ block_size) × (k ≤ per_block)
-  whole t n r k is says = whole_block s t n k (sym says ∙ ap block_says is)
+-- what a caller needs to take the seconds out
+pub whole : (s : List ℕ) (t n : ℕ) (r : Result ℕ Refusal) (k : ℕ) → r ≡ Ok k → block_says r ≡ block_of s t n → (length s ≡ block_size) × (k ≤ per_block)
+whole s t n r k is says = whole_block s t n k (sym says ∙ ap block_says is)
 
-  pub few : (x : List ℕ) (r : Header) (o t : ℕ) → r ≡ header.Fields o t → ◌≡◌ {A = Outcome} (record { said = header_says r; buffer = x }) (header_copy b s) → t ≤ most_seconds
-  few x r o t is e =
-      let f = header_fields s o t (sym (ap (λ (y : Outcome). y.said) e) ∙ ap header_says is) in
-      omega (arith, f.2, f.0.most)
+pub few : (b s x : List ℕ) (r : Result Header Refusal) (h : Header) → result_ok r ≡ Some h → ◌≡◌ {A = Outcome} (record { said = header_says r; buffer = x }) (header_copy b s) → h.seconds ≤ most_seconds
+few b s x (Ok y) h is e =
+    let f = header_fields s y.owner y.seconds (sym (ap (λ (o : Outcome). o.said) e)) in
+    let same : y ≡ h = cc in
+    rw (← same) (omega (arith, f.2, f.0.most))
+few b s x (Err n) h is e = cc
+
+-- a writer that had no number
+pub done : (b s : List ℕ) {x : List ℕ} (w : Result (Unit {0}) Refusal) (n : ℕ) → ◌≡◌ {A = Outcome} (record { said = written_says w; buffer = x }) (outcome_by n b s) → n ≡ 0 → IsOk w
+done b s (Ok u) n e z = refl
+done b s (Err m) zero e z = let f : refused (number_of m) ≡ values [] = ap (λ (o : Outcome). o.said) e in cc
+done b s (Err m) (suc n) e z = cc
+
+pub read_fields : (s : List ℕ) (r : Result Header Refusal) (h : Header) → r ≡ Ok h → header_says r ≡ header_of s → TakenHeader s × (h.owner ≡ owner_of s) × (h.seconds ≡ seconds_of s)
+read_fields s r h is says = header_fields s h.owner h.seconds (sym says ∙ ap header_says is)
+
+pub read_layout : (s : List ℕ) (t n k : ℕ) (r : Result ℕ Refusal) → Bytes s → r ≡ Ok k → block_says r ≡ block_of s t n → BlockLayout s t n k
+read_layout s t n k r bytes is says = (read.claims).block_taken s t n k bytes (sym says ∙ ap block_says is)

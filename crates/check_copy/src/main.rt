@@ -2,96 +2,76 @@
 // copy of a book with nothing wrong in its form is the book (specs/Claims.antt).
 #![tactic(auto)]
 
-ghost use Rattle.std.specs.Prelude.{◌≡◌, ◌≤◌};
+ghost use Rattle.std.specs.Prelude.{◌≡◌, ◌≤◌, IfSome};
 ghost use Rattle.record.specs.Record.{most_seconds};
 ghost use Rattle.block.specs.Header.{header_says};
 ghost use Rattle.block.specs.Block.{block_says};
 ghost use Rattle.check_copy.specs.Copy.{header_copy, block_copy};
 
-use block::{Block, Header};
+use block::{Header, SIZE};
+use refusals::Refusal;
 use std::io::Read;
 
 // The header, written anew into the buffer.
-fn copy_header(bytes: &[u8], buf: &mut [u8]) -> Header
+fn copy_header(bytes: &[u8], buf: &mut [u8; SIZE]) -> Result<Header, Refusal>
     ensures { record { said = header_says result; buffer = buf.new } ≡ header_copy buf.old bytes.now }
 {
-    match block::read_header(bytes) {
-        Header::Refused(number) => Header::Refused(number),
-        Header::Fields { owner, seconds } => {
-            block::write_header(buf, owner, seconds);
-            Header::Fields { owner, seconds }
-        }
-    }
+    let header = block::read_header(bytes)?;
+    block::write_header(buf, header.owner, header.seconds).unwrap();
+    Ok(header)
 }
 
-// Block n of a book of `seconds` seconds, written anew into the buffer.
-fn copy_block(bytes: &[u8], seconds: u32, n: u32, buf: &mut [u8]) -> Block
+// Block n of a book of `seconds` seconds, written anew into the buffer; how many seconds it has.
+fn copy_block(bytes: &[u8], seconds: u32, n: u32, buf: &mut [u8; SIZE]) -> Result<usize, Refusal>
     ensures { record { said = block_says result; buffer = buf.new } ≡ block_copy buf.old bytes.now seconds n }
 {
-    match block::read_block(bytes, seconds, n) {
-        Block::Refused(number) => Block::Refused(number),
-        Block::Seconds(count) => {
-            block::write_block(buf, n, block::body(bytes, count));
-            Block::Seconds(count)
-        }
+    let count = block::read_block(bytes, seconds, n)?;
+    block::write_block(buf, n, block::body(bytes, count)).unwrap();
+    Ok(count)
+}
+
+// A book on its way from `input` to standard output: the block read last, and the same written anew.
+#[derive(Drop)]
+struct Copier<R> {
+    input: R,
+    bytes: [u8; SIZE],
+    anew: [u8; SIZE],
+}
+
+impl<R: Read> Copier<R> {
+    // Sends the header anew; the seconds that it gives, none where it is refused or can't be sent.
+    fn send_header(&mut self, rt: &impl Print) -> Option<u32>
+        ensures { IfSome result (λ seconds. seconds ≤ most_seconds) }
+    {
+        let len = full_read::read_full(&mut self.input, &mut self.bytes);
+        let header = copy_header(&self.bytes[..len], &mut self.anew).ok()?;
+        rt.write_all(&self.anew).ok()?;
+        Some(header.seconds)
     }
-}
 
-// Reads the header and sends it anew. The seconds that it gives; 0 where it is refused or can't be sent, as no block is due then.
-fn send_header<R: Read>(rt: &impl Print, input: &mut R, bytes: &mut [u8], buf: &mut [u8]) -> u32
-    ensures { result ≤ most_seconds }
-{
-    let len = full_read::read_full(input, bytes);
-    let header = copy_header(&bytes[..len], buf);
-    let Header::Fields { owner: _, seconds } = header else {
-        return 0;
-    };
-    if rt.write_all(buf).is_err() {
-        return 0;
+    // Sends block n anew; none where it is refused or can't be sent.
+    fn send_block(&mut self, rt: &impl Print, seconds: u32, n: u32) -> Option<()> {
+        let len = full_read::read_full(&mut self.input, &mut self.bytes);
+        copy_block(&self.bytes[..len], seconds, n, &mut self.anew).ok()?;
+        rt.write_all(&self.anew).ok()
     }
-    seconds
-}
 
-// Reads block n and sends it anew; false where it is refused or can't be sent.
-fn send_block<R: Read>(
-    rt: &impl Print,
-    input: &mut R,
-    bytes: &mut [u8],
-    seconds: u32,
-    n: u32,
-    buf: &mut [u8],
-) -> bool {
-    let len = full_read::read_full(input, bytes);
-    let block = copy_block(&bytes[..len], seconds, n, buf);
-    let Block::Seconds(_) = block else {
-        return false;
-    };
-    rt.write_all(buf).is_ok()
-}
-
-// The blocks after the header.
-fn send_blocks<R: Read>(
-    rt: &impl Print,
-    input: &mut R,
-    bytes: &mut [u8],
-    seconds: u32,
-    buf: &mut [u8],
-)
-    requires { seconds ≤ most_seconds }
-{
-    let last = block::last_block(seconds);
-    let mut n = 1;
-    while n <= last {
-        if !send_block(rt, input, bytes, seconds, n, buf) {
-            return;
+    // Sends the book, up to what is refused or can't be sent.
+    fn send(&mut self, rt: &impl Print) -> Option<()> {
+        let seconds = self.send_header(rt)?;
+        for n in 1..=block::last_block(seconds) {
+            self.send_block(rt, seconds, n)?;
         }
-        n += 1;
+        Some(())
     }
 }
 
 fn main(rt: HostRuntime) {
-    let mut bytes = [0; block::SIZE];
-    let mut buf = [0; block::SIZE];
-    let seconds = send_header(&rt, &mut rt.stdin(), &mut bytes, &mut buf);
-    send_blocks(&rt, &mut rt.stdin(), &mut bytes, seconds, &mut buf);
+    let mut copier = Copier {
+        input: rt.stdin(),
+        bytes: [0; SIZE],
+        anew: [0; SIZE],
+    };
+    // It ends without a word, however far it came.
+    copier.send(&rt);
 }
