@@ -1,9 +1,8 @@
 -- Four bytes and their number, in both directions. Assumes nothing.
-use mathlib.Core.Path.{◌≡◌, ap, ◌∙◌}
-use mathlib.Core.List.{[], ◌∷◌}
-use Prim.Native.Nat.{ℕ, ◌+◌, ◌*◌, ◌/◌, ◌%◌, ◌<◌}
-use native.Mathlib.Omega.{arith}
-use Rattle.codec.specs.Little.{u32_at, le4}
+use Rattle.std.proofs.Common.{◌≡◌, ap, ◌∙◌, [], ◌∷◌, ℕ, ◌+◌, ◌*◌, ◌/◌, ◌%◌, ◌<◌, ◌^◌, to_z, w16, w32, arith}
+use Rattle.std.proofs.lemmas.Int.{ints}
+use Rattle.std.proofs.lemmas.Bool.Decides.{nat_tests}
+use Rattle.codec.specs.Little.{u32_at, le4, twos_complement}
 
 pub le4_value : (n : ℕ) → u32_at (le4 n) 0 ≡ n
 le4_value n = omega arith
@@ -21,3 +20,12 @@ four_bytes a b c d h k l =
     let r : c ≡ n / 65536 % 256 = low c d l ∙ ap (λ (m : ℕ). m % 256) v in
     let t : d ≡ n / 16777216 = omega arith in
     cc
+
+-- the bits of n read as a signed number
+pub signed_16 : (n : ℕ) → n < 2 ^ 16 → to_z w16 n ≡ twos_complement 32768 n
+unfolding twos_complement
+signed_16 n h = grind (arith, ints, nat_tests)
+
+pub signed_32 : (n : ℕ) → n < 2 ^ 32 → to_z w32 n ≡ twos_complement 2147483648 n
+unfolding twos_complement
+signed_32 n h = grind (arith, ints, nat_tests)

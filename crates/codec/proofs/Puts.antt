@@ -1,13 +1,12 @@
 -- Appending twice is appending once: `both` chains what two calls leave, so that a line's proof is a chain of its parts.
 -- Assumes nothing.
-use mathlib.Core.Path.{◌≡◌, refl, sym, ap, ◌∙◌}
-use mathlib.Core.List.{List, [], ◌∷◌, ◌++◌, append_assoc}
-use Prim.Native.Nat.{ℕ, ◌+◌, ◌≤◌, ◌<◌}
+use mathlib.Core.Path.{◌≡◌, sym, ap, ◌∙◌}
+use mathlib.Core.List.{List, [], ◌++◌, append_assoc}
+use Prim.Native.Nat.{ℕ, ◌+◌, ◌≤◌}
 use native.Mathlib.Nat.{add_assoc, add-zero}
-use native.Mathlib.Numerals.{add-one}
 use native.Mathlib.Omega.{arith}
-use lib.ListN.{length, take, drop, set, get_or, length-append, length-take, length-drop, take-append-drop}
-use lib.Seq.{take_at, drop_at, drop-drop, length-take-le, set_split, take-suc, take_all}
+use lib.ListN.{length, take, drop, length-append, length-take, length-drop, take-append-drop}
+use lib.Seq.{take_at, drop_at, drop-drop, length-take-le}
 use Rattle.codec.specs.Put.{over, Put}
 
 over_over : (b : List ℕ) (at : ℕ) (x y : List ℕ) → at ≤ length b → over (over b at x) (at + length x) y ≡ over b at (x ++ y)
@@ -54,17 +53,3 @@ sized h f = record { bytes = f.bytes; next = f.next; most = omega (arith, f.next
 
 pub none : (b : List ℕ) (at : ℕ) → at ≤ length b → Put 0 b b at at []
 none b at h = record { bytes = sym (ap (λ (n : ℕ). take at b ++ drop n b) (add-zero at) ∙ take-append-drop at b); next = omega arith; most = omega arith; room = h }
-
--- a store is appending one byte
-pub one : (b : List ℕ) (at v : ℕ) → at < length b → Put 1 b (set b at v) at (at + 1) (v ∷ [])
-one b at v h = record { bytes = set_split b at v h ∙ ap (λ (n : ℕ). take at b ++ v ∷ drop n b) (sym (add-one at)); next = refl; most = omega arith; room = omega arith }
-
--- one byte more of a text, and all of it
-pub more : {at p r i : ℕ} {b c e : List ℕ} (text : List ℕ) → i < length text → Put i b c at p (take i text) → Put 1 c e p r (get_or text i 0 ∷ []) → Put (i + 1) b e at r (take (i + 1) text)
-more {at} {r = r} {i = i} {b = b} {e = e} text h f g = rw (add-one, take-suc text i 0 h) (rw add-one at (both f g))
-
-pub whole : {at r i : ℕ} {b e : List ℕ} (text : List ℕ) → i ≤ length text → length text ≤ i → Put i b e at r (take i text) → Put (length text) b e at r text
-whole {at} {r} {i} {b} {e} text h k f =
-    let all : take i text ≡ text = take_all i text k in
-    let n : i ≡ length text = omega arith in
-    rw (← n) (rw all at f)

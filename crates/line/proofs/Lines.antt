@@ -1,23 +1,29 @@
--- A line's answer and buffer, from the test of the buffer's length and from what was put. Assumes nothing.
-use mathlib.Core.Path.{ap, ◌∙◌}
-use mathlib.Core.List.{List, ◌++◌}
-use Prim.Native.Nat.{ℕ, ◌≤◌, ◌<◌, zero-le}
-use native.Mathlib.Nat.{zero-add}
-use native.Mathlib.Omega.{arith}
-use lib.ListN.{length, drop}
-use borrow.Author.Tests.{lt-ltb, le-ltb}
-use Rattle.line.specs.declared.Answer.TheVariants.{Length, Refused}
+-- A line's result and buffer, where there is room for it, from what was put. Assumes nothing.
+use Rattle.std.proofs.Common.{◌≡◌, ℕ, ◌≤◌, cond, ltb, List, ◌++◌, length, drop, Result, Ok, Err, ap, ◌∙◌, zero-add, arith}
+use borrow.Author.Tests.{le-ltb}
+use Rattle.refusals.specs.declared.Refusal.{Refusal}
+use Rattle.refusals.specs.Refusals.{Given, told}
 use Rattle.codec.specs.Put.{Put}
 use Rattle.line.specs.Lined.{Lined}
 
-pub short : (least : ℕ) (b text : List ℕ) → length b < least → Lined least b b (Refused 22) text
-short least b text h = record { answer = rw (lt-ltb (length b) least h); buffer = rw (lt-ltb (length b) least h); most = zero-le; within = zero-le }
+-- what `check_room` answers where it turns nothing down
+room : (n least : ℕ) → ◌≡◌ {A = ℕ} 0 (cond (ltb n least) 22 0) → least ≤ n
+room n least h = grind arith
 
-pub written : {least r : ℕ} {b e text : List ℕ} → least ≤ length b → Put least b e 0 r text → Lined least b e (Length r) text
-written {least} {b = b} {text = text} h f =
+pub written : {least m r : ℕ} {b e text : List ℕ} → ◌≡◌ {A = ℕ} 0 (cond (ltb (length b) least) 22 0) → m ≤ least → Put m b e 0 r text → Lined least b e (Ok r) text
+written {least} {b = b} {text = text} h m f =
+    let roomy = le-ltb (length b) least (room (length b) least h) in
     record {
-      answer = rw (le-ltb (length b) least h) (ap Length (f.next ∙ zero-add (length text)));
-      buffer = rw (le-ltb (length b) least h) (f.bytes ∙ ap (λ (n : ℕ). text ++ drop n b) (zero-add (length text)));
+      answer = rw roomy (ap Given (f.next ∙ zero-add (length text)));
+      buffer = rw roomy (f.bytes ∙ ap (λ (n : ℕ). text ++ drop n b) (zero-add (length text)));
       most = omega (arith, f.most);
       within = f.room;
     }
+
+-- with room, the result is the line's length
+pub taken : {least : ℕ} {b e text : List ℕ} {r : Result ℕ Refusal} → least ≤ length b → Lined least b e r text → r ≡ Ok (length text)
+taken {least} {b} {text = text} {r = r} h f = given r (f.answer ∙ (rw (le-ltb (length b) least h)))
+  where
+    given : (r : Result ℕ Refusal) → told r ≡ Given (length text) → r ≡ Ok (length text)
+    given (Ok x) e = cc
+    given (Err x) e = cc

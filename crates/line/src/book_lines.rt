@@ -6,8 +6,9 @@ ghost use Rattle.line.specs.Text.{named};
 ghost use Rattle.line.specs.Line.{plant_text, second_text, sum_text, refusal_text};
 ghost use Rattle.line.specs.Lined.{Lined};
 
-use crate::number::{put_count, put_field, put_sum};
-use crate::{Answer, TOO_SMALL};
+use crate::check_room;
+use crate::number::{put_count, put_field, put_number};
+use refusals::Refusal;
 use row::{KwSeconds, Row, Sums};
 
 // The least buffer that these line writers take.
@@ -26,73 +27,46 @@ fn put_plant(buf: &mut [u8], at: usize, letter: u8, x: Row) -> usize
     put_field(buf, at, x.open)
 }
 
-fn put_second(buf: &mut [u8], second: u32, u: Row, a: Row, b: Row) -> usize
-    requires { line_room ≤ length buf.old }
-    ensures { Put line_room buf.old buf.new 0 result (second_text second u a b) }
-{
-    let at = put_count(buf, 0, second);
-    let at = put_plant(buf, at, b'U', u);
-    let at = put_plant(buf, at, b'A', a);
-    let at = put_plant(buf, at, b'B', b);
-    codec::put_byte(buf, at, b'\n')
-}
-
 fn put_named(buf: &mut [u8], at: usize, name: &[u8], v: KwSeconds) -> usize
     requires { at + length name.now + sum_width ≤ length buf.old }
     ensures { Put (length name.now + sum_width) buf.old buf.new at result (named name.now v.0) }
 {
     let at = codec::put_bytes(buf, at, name);
-    put_sum(buf, at, v)
+    put_number(buf, at, v.0)
 }
 
-fn put_sums(buf: &mut [u8], s: Sums) -> usize
-    requires { line_room ≤ length buf.old }
-    ensures { Put line_room buf.old buf.new 0 result (sum_text s) }
+// The line of a second: the unit's figures, then those of the pools A and B.
+pub fn second_line(buf: &mut [u8], second: u32, u: Row, a: Row, b: Row) -> Result<usize, Refusal>
+    ensures { Lined line_room buf.old buf.new result (second_text second u a b) }
 {
+    check_room(buf, LEAST)?;
+    let at = put_count(buf, 0, second);
+    let at = put_plant(buf, at, b'U', u);
+    let at = put_plant(buf, at, b'A', a);
+    let at = put_plant(buf, at, b'B', b);
+    Ok(codec::put_byte(buf, at, b'\n'))
+}
+
+// The sum line.
+pub fn sum_line(buf: &mut [u8], s: Sums) -> Result<usize, Refusal>
+    ensures { Lined line_room buf.old buf.new result (sum_text s) }
+{
+    check_room(buf, LEAST)?;
     let at = put_named(buf, 0, b"sum A ", s.a);
     let at = put_named(buf, at, b" B ", s.b);
     let at = put_named(buf, at, b" open ", s.open);
     let at = put_named(buf, at, b" due ", s.due);
-    codec::put_byte(buf, at, b'\n')
-}
-
-fn put_refusal(buf: &mut [u8], number: u8, seconds: u32) -> usize
-    requires { line_room ≤ length buf.old }
-    ensures { Put line_room buf.old buf.new 0 result (refusal_text number seconds) }
-{
-    let at = codec::put_bytes(buf, 0, b"refused ");
-    let at = put_count(buf, at, number as u32);
-    let at = codec::put_bytes(buf, at, b" at ");
-    let at = put_count(buf, at, seconds);
-    codec::put_byte(buf, at, b'\n')
-}
-
-// The line of a second: the unit's figures, then those of the pools A and B.
-pub fn second_line(buf: &mut [u8], second: u32, u: Row, a: Row, b: Row) -> Answer
-    ensures { Lined line_room buf.old buf.new result (second_text second u a b) }
-{
-    if buf.len() < LEAST {
-        return Answer::Refused(TOO_SMALL);
-    }
-    Answer::Length(put_second(buf, second, u, a, b))
-}
-
-// The sum line.
-pub fn sum_line(buf: &mut [u8], s: Sums) -> Answer
-    ensures { Lined line_room buf.old buf.new result (sum_text s) }
-{
-    if buf.len() < LEAST {
-        return Answer::Refused(TOO_SMALL);
-    }
-    Answer::Length(put_sums(buf, s))
+    Ok(codec::put_byte(buf, at, b'\n'))
 }
 
 // The line of a refusal: its number, and the seconds accepted so far.
-pub fn refusal_line(buf: &mut [u8], number: u8, seconds: u32) -> Answer
+pub fn refusal_line(buf: &mut [u8], number: u8, seconds: u32) -> Result<usize, Refusal>
     ensures { Lined line_room buf.old buf.new result (refusal_text number seconds) }
 {
-    if buf.len() < LEAST {
-        return Answer::Refused(TOO_SMALL);
-    }
-    Answer::Length(put_refusal(buf, number, seconds))
+    check_room(buf, LEAST)?;
+    let at = codec::put_bytes(buf, 0, b"refused ");
+    let at = put_count(buf, at, u32::from(number));
+    let at = codec::put_bytes(buf, at, b" at ");
+    let at = put_count(buf, at, seconds);
+    Ok(codec::put_byte(buf, at, b'\n'))
 }

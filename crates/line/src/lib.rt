@@ -9,31 +9,22 @@ mod row_lines;
 mod share_lines;
 mod short_lines;
 
-ghost use Rattle.std.specs.Prelude.{◌≡◌};
-ghost use Rattle.line.specs.Lined.{length_in};
+ghost use Rattle.std.specs.Prelude.{◌≡◌, nat_lt, length, if◌then◌else◌};
+ghost use Rattle.refusals.specs.Refusals.{number_in};
 
 pub use book_lines::{refusal_line, second_line, sum_line};
-pub use number::{put_count, put_millihertz};
+pub use number::{Figure, put_count, put_field};
+use refusals::Refusal;
 pub use row_lines::{ROW_ROOM, plant_line};
 pub use share_lines::plant_shares;
 pub use short_lines::{plant_counts, plant_short};
 
-// The refusal of a buffer with too little room.
-const TOO_SMALL: u8 = 22;
-
-// What a line writer answers: the line's length, or 22.
-#[derive(Clone, Copy)]
-pub enum Answer {
-    Length(usize),
-    Refused(u8),
-}
-
-// The length that an answer gives, 0 for a refusal.
-pub fn length_in(a: Answer) -> usize
-    ensures { result ≡ length_in a }
+// Turns down a buffer of fewer than `least` bytes.
+fn check_room(buf: &[u8], least: usize) -> Result<(), Refusal>
+    ensures { number_in result ≡ (if nat_lt (length buf.now) least then 22 else 0) }
 {
-    match a {
-        Answer::Length(n) => n,
-        Answer::Refused(_) => 0,
+    if buf.len() < least {
+        return Err(Refusal::LineRoom);
     }
+    Ok(())
 }

@@ -5,8 +5,9 @@ ghost use Rattle.line.specs.Widths.{row_room, kind_width};
 ghost use Rattle.line.specs.Line.{kind_text, row_text};
 ghost use Rattle.line.specs.Lined.{Lined};
 
+use crate::check_room;
 use crate::number::{put_count, put_field};
-use crate::{Answer, TOO_SMALL};
+use refusals::Refusal;
 use row::{KindRow, Row};
 
 // The least buffer that this line writer takes, and those of the shares and the short lines; no line needs more.
@@ -17,18 +18,18 @@ fn put_kind(buf: &mut [u8], at: usize, k: KindRow) -> usize
     requires { at + kind_width ≤ length buf.old }
     ensures { Put kind_width buf.old buf.new at result (kind_text k) }
 {
-    let band = k.band;
     let at = put_field(buf, at, k.setpoint);
-    let at = put_field(buf, at, band.low);
-    let at = put_field(buf, at, band.high);
+    let at = put_field(buf, at, k.band.low);
+    let at = put_field(buf, at, k.band.high);
     let at = put_field(buf, at, k.share);
     put_field(buf, at, k.actual)
 }
 
-fn put_row(buf: &mut [u8], second: u32, letter: u8, x: Row) -> usize
-    requires { row_room ≤ length buf.old }
-    ensures { Put row_room buf.old buf.new 0 result (row_text second letter x) }
+// The line of a plant's second: its letter, every figure of FCR, aFRR and mFRR, then open.
+pub fn plant_line(buf: &mut [u8], second: u32, letter: u8, x: Row) -> Result<usize, Refusal>
+    ensures { Lined row_room buf.old buf.new result (row_text second letter x) }
 {
+    check_room(buf, ROW_ROOM)?;
     let at = put_count(buf, 0, second);
     let at = codec::put_byte(buf, at, b' ');
     let at = codec::put_byte(buf, at, letter);
@@ -36,15 +37,5 @@ fn put_row(buf: &mut [u8], second: u32, letter: u8, x: Row) -> usize
     let at = put_kind(buf, at, x.afrr);
     let at = put_kind(buf, at, x.mfrr);
     let at = put_field(buf, at, x.open);
-    codec::put_byte(buf, at, b'\n')
-}
-
-// The line of a plant's second: its letter, every figure of FCR, aFRR and mFRR, then open.
-pub fn plant_line(buf: &mut [u8], second: u32, letter: u8, x: Row) -> Answer
-    ensures { Lined row_room buf.old buf.new result (row_text second letter x) }
-{
-    if buf.len() < ROW_ROOM {
-        return Answer::Refused(TOO_SMALL);
-    }
-    Answer::Length(put_row(buf, second, letter, x))
+    Ok(codec::put_byte(buf, at, b'\n'))
 }

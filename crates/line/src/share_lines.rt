@@ -6,7 +6,8 @@ ghost use Rattle.line.specs.Shares.{rounding_text, roundings_text, shares_text};
 ghost use Rattle.line.specs.Lined.{Lined};
 
 use crate::number::{put_count, put_field, put_unsigned};
-use crate::{Answer, ROW_ROOM, TOO_SMALL};
+use crate::{ROW_ROOM, check_room};
+use refusals::Refusal;
 use row::{Rounding, Row};
 
 // One kind's tolerance, rounded-down share, remainder and extra kW, each after a space.
@@ -29,25 +30,16 @@ fn put_roundings(buf: &mut [u8], at: usize, x: Row) -> usize
     put_rounding(buf, at, x.mfrr.rounding)
 }
 
-fn put_shares(buf: &mut [u8], second: u32, letter: u8, x: Row) -> usize
-    requires { row_room ≤ length buf.old }
-    ensures { Put row_room buf.old buf.new 0 result (shares_text second letter x) }
+// The line of a plant's second: its letter, error and T, then what FCR, aFRR and mFRR had of the error.
+pub fn plant_shares(buf: &mut [u8], second: u32, letter: u8, x: Row) -> Result<usize, Refusal>
+    ensures { Lined row_room buf.old buf.new result (shares_text second letter x) }
 {
+    check_room(buf, ROW_ROOM)?;
     let at = put_count(buf, 0, second);
     let at = codec::put_byte(buf, at, b' ');
     let at = codec::put_byte(buf, at, letter);
     let at = put_field(buf, at, x.error);
     let at = put_unsigned(buf, at, x.total);
     let at = put_roundings(buf, at, x);
-    codec::put_byte(buf, at, b'\n')
-}
-
-// The line of a plant's second: its letter, error and T, then what FCR, aFRR and mFRR had of the error.
-pub fn plant_shares(buf: &mut [u8], second: u32, letter: u8, x: Row) -> Answer
-    ensures { Lined row_room buf.old buf.new result (shares_text second letter x) }
-{
-    if buf.len() < ROW_ROOM {
-        return Answer::Refused(TOO_SMALL);
-    }
-    Answer::Length(put_shares(buf, second, letter, x))
+    Ok(codec::put_byte(buf, at, b'\n'))
 }

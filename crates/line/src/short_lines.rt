@@ -6,8 +6,9 @@ ghost use Rattle.line.specs.Widths.{row_room, name_width, side_width, outside_wi
 ghost use Rattle.line.specs.Short.{outside_text, side_text, short_text, side_count_text, kind_counts_text, counts_text};
 ghost use Rattle.line.specs.Lined.{Lined};
 
-use crate::number::{put_amount, put_count};
-use crate::{Answer, ROW_ROOM, TOO_SMALL};
+use crate::number::{put_count, put_number};
+use crate::{ROW_ROOM, check_room};
+use refusals::Refusal;
 use row::{BandSide, KindCounts, KindRow, PlantCounts, Row, SideCount};
 
 // The line of a kind outside its band. The names of kind and side have their spaces.
@@ -20,7 +21,9 @@ fn put_outside(
     side: &[u8],
     kw: u32,
 ) -> usize
-    requires { (at + outside_width ≤ length buf.old) × (length kind.now ≤ name_width) × (length side.now ≤ side_width) }
+    requires room { at + outside_width ≤ length buf.old }
+    requires kind_name { length kind.now ≤ name_width }
+    requires side_name { length side.now ≤ side_width }
     ensures { Put outside_width buf.old buf.new at result (outside_text second letter kind.now side.now kw) }
 {
     let at = put_count(buf, at, second);
@@ -34,7 +37,8 @@ fn put_outside(
 
 // Nothing for a kind within its band.
 fn put_side(buf: &mut [u8], at: usize, second: u32, letter: u8, kind: &[u8], k: KindRow) -> usize
-    requires { (at + outside_width ≤ length buf.old) × (length kind.now ≤ name_width) }
+    requires room { at + outside_width ≤ length buf.old }
+    requires kind_name { length kind.now ≤ name_width }
     ensures { Put outside_width buf.old buf.new at result (side_text second letter kind.now (side_of k)) }
 {
     match k.side() {
@@ -44,38 +48,31 @@ fn put_side(buf: &mut [u8], at: usize, second: u32, letter: u8, kind: &[u8], k: 
     }
 }
 
-fn put_short(buf: &mut [u8], second: u32, letter: u8, x: Row) -> usize
-    requires { row_room ≤ length buf.old }
-    ensures { Put row_room buf.old buf.new 0 result (short_text second letter x) }
-{
-    let at = put_side(buf, 0, second, letter, b" FCR", x.fcr);
-    let at = put_side(buf, at, second, letter, b" aFRR", x.afrr);
-    put_side(buf, at, second, letter, b" mFRR", x.mfrr)
-}
-
 // The lines of a plant's second: one for each kind outside its band, FCR, aFRR and mFRR in turn.
-pub fn plant_short(buf: &mut [u8], second: u32, letter: u8, x: Row) -> Answer
+pub fn plant_short(buf: &mut [u8], second: u32, letter: u8, x: Row) -> Result<usize, Refusal>
     ensures { Lined row_room buf.old buf.new result (short_text second letter x) }
 {
-    if buf.len() < ROW_ROOM {
-        return Answer::Refused(TOO_SMALL);
-    }
-    Answer::Length(put_short(buf, second, letter, x))
+    check_room(buf, ROW_ROOM)?;
+    let at = put_side(buf, 0, second, letter, b" FCR", x.fcr);
+    let at = put_side(buf, at, second, letter, b" aFRR", x.afrr);
+    Ok(put_side(buf, at, second, letter, b" mFRR", x.mfrr))
 }
 
 // The name of a side, its seconds and its kW-seconds.
 fn put_side_count(buf: &mut [u8], at: usize, side: &[u8], c: SideCount) -> usize
-    requires { (at + side_count_width ≤ length buf.old) × (length side.now ≤ side_width) }
+    requires room { at + side_count_width ≤ length buf.old }
+    requires side_name { length side.now ≤ side_width }
     ensures { Put side_count_width buf.old buf.new at result (side_count_text side.now c) }
 {
     let at = codec::put_bytes(buf, at, side);
     let at = put_count(buf, at, c.seconds);
     let at = codec::put_byte(buf, at, b' ');
-    put_amount(buf, at, c.kw_seconds)
+    put_number(buf, at, c.kw_seconds)
 }
 
 fn put_kind_counts(buf: &mut [u8], at: usize, letter: u8, kind: &[u8], c: KindCounts) -> usize
-    requires { (at + counts_width ≤ length buf.old) × (length kind.now ≤ name_width) }
+    requires room { at + counts_width ≤ length buf.old }
+    requires kind_name { length kind.now ≤ name_width }
     ensures { Put counts_width buf.old buf.new at result (kind_counts_text letter kind.now c) }
 {
     let at = codec::put_byte(buf, at, letter);
@@ -85,21 +82,12 @@ fn put_kind_counts(buf: &mut [u8], at: usize, letter: u8, kind: &[u8], c: KindCo
     codec::put_byte(buf, at, b'\n')
 }
 
-fn put_counts(buf: &mut [u8], letter: u8, c: PlantCounts) -> usize
-    requires { row_room ≤ length buf.old }
-    ensures { Put row_room buf.old buf.new 0 result (counts_text letter c) }
-{
-    let at = put_kind_counts(buf, 0, letter, b" FCR", c.fcr);
-    let at = put_kind_counts(buf, at, letter, b" aFRR", c.afrr);
-    put_kind_counts(buf, at, letter, b" mFRR", c.mfrr)
-}
-
 // The three lines of a plant's counts.
-pub fn plant_counts(buf: &mut [u8], letter: u8, c: PlantCounts) -> Answer
+pub fn plant_counts(buf: &mut [u8], letter: u8, c: PlantCounts) -> Result<usize, Refusal>
     ensures { Lined row_room buf.old buf.new result (counts_text letter c) }
 {
-    if buf.len() < ROW_ROOM {
-        return Answer::Refused(TOO_SMALL);
-    }
-    Answer::Length(put_counts(buf, letter, c))
+    check_room(buf, ROW_ROOM)?;
+    let at = put_kind_counts(buf, 0, letter, b" FCR", c.fcr);
+    let at = put_kind_counts(buf, at, letter, b" aFRR", c.afrr);
+    Ok(put_kind_counts(buf, at, letter, b" mFRR", c.mfrr))
 }

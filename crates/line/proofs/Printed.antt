@@ -1,0 +1,23 @@
+-- What the library prints of a number is its text. Assumes nothing.
+use Rattle.std.proofs.Common.{◌≡◌, ℕ, suc, ◌^◌, ◌<◌, List, ◌∷◌, ℤ, pos, negsuc, nat_abs, sym, ap, ◌∙◌, arith}
+use Rattle.std.specs.Fmt.{decimal as printed, signed_decimal}
+use Rattle.std.proofs.lemmas.Fmt.{AppendsLastDigit, decimal_from_appends, length-decimal-le, length-decimal-le_succ}
+use borrow.Author.Tests.{lt-ltb, le-ltb}
+use Rattle.line.specs.Text.{digits_in, digits, decimal}
+
+last_digit : AppendsLastDigit digits_in
+unfolding digits_in
+last_digit = record { one = λ k n h. rw (lt-ltb n 10 h); more = λ k n h. rw (le-ltb n 10 h) }
+
+pub printed_is : (n : ℕ) → n < 2 ^ 64 → printed n ≡ digits n
+unfolding digits
+printed_is n h = sym (decimal_from_appends digits_in last_digit (suc n) n h (omega (arith, length-decimal-le_succ n h)))
+
+pub signed_is : (z : ℤ) → nat_abs z < 2 ^ 64 → signed_decimal z ≡ decimal z
+unfolding decimal
+signed_is (pos n) h = printed_is n h
+signed_is (negsuc n) h = ap (λ (l : List ℕ). 45 ∷ l) (printed_is _ h)
+
+-- below 10 ^ k, k turns are enough: so a large number's digits compute
+pub digits_by : (k n : ℕ) → n < 10 ^ suc k → n < 2 ^ 64 → digits n ≡ digits_in (suc k) n
+digits_by k n h l = sym (printed_is n l) ∙ sym (decimal_from_appends digits_in last_digit (suc k) n l (length-decimal-le (suc k) n (omega arith) h l))
