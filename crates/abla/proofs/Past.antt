@@ -33,10 +33,6 @@ within_first n = grind (arith, nat_tests)
 -- ---- the stage, a second later
 
 -- of a past whose newest second has a set flag, and of one whose newest second has none
-in_call_lem : (x : LoadSecond) (h : History) → flagged x ≡ true → stage_of (x ∷ h) ≡ Called (is_quick (latest (x ∷ h)).first.class) (min (latest (x ∷ h)).seconds hour) (ramp_of (latest (x ∷ h)))
-unfolding stage_of
-in_call_lem x h f = rw f
-
 no_call_lem : (x : LoadSecond) (h : History) → flagged x ≡ false → stage_of (x ∷ h) ≡ cond (returning (x ∷ h)) (Returning (since (x ∷ h)) (ramp_of (latest (x ∷ h)))) Holding
 unfolding stage_of
 no_call_lem x h f = rw f

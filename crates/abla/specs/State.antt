@@ -51,6 +51,7 @@ StageReady Holding = Unit
 StageReady (Called quick seconds ramp) = LimitsReady ramp
 StageReady (Returning since ramp) = LimitsReady ramp
 
+-- a clause and no invariant of the type: `state_of` is also of pasts that were not accepted, whose states are not ready
 pub record Ready (s : AblaState) : Type 0 where
   pub stage_ready : StageReady s.stage
   pub before_range : Within (lower_most * per_kw) s.before.0

@@ -7,7 +7,7 @@ ghost use Rattle.abla.specs.State.{Fields, Fair};
 use crate::fifths::{fifth_of, in_fifths};
 use power::{Grains, Kw, Limits};
 
-// Class and flag are bytes as they come: 31 is what tells those that mean something from the others.
+// Class and flag are bytes and no enums: any byte may come, and 31 turns down those that mean nothing.
 #[derive(Clone, Copy, Debug, PartialEq, Eq)]
 pub struct LoadSecond {
     // The reported minimum consumption; consumption is negative.
