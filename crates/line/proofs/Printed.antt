@@ -1,8 +1,10 @@
 -- What the library prints of a number is its text. Assumes nothing.
-use Rattle.std.proofs.Common.{◌≡◌, ℕ, suc, ◌^◌, ◌<◌, List, ◌∷◌, ℤ, pos, negsuc, nat_abs, sym, ap, ◌∙◌, arith}
+use Rattle.std.proofs.Common.{◌≡◌, ℕ, suc, ◌^◌, ◌<◌, List, ◌∷◌, ℤ, pos, negsuc, nat_abs, SFits, w64, sym, ap, ◌∙◌, arith}
 use Rattle.std.specs.Fmt.{decimal as printed, signed_decimal}
 use Rattle.std.proofs.lemmas.Fmt.{AppendsLastDigit, decimal_from_appends, length-decimal-le, length-decimal-le_succ}
+use lib.Signed.{nat_abs-le}
 use borrow.Author.Tests.{lt-ltb, le-ltb}
+use Rattle.codec.specs.Put.{Put}
 use Rattle.line.specs.Text.{digits_in, digits, decimal}
 
 last_digit : AppendsLastDigit digits_in
@@ -17,6 +19,10 @@ pub signed_is : (z : ℤ) → nat_abs z < 2 ^ 64 → signed_decimal z ≡ decima
 unfolding decimal
 signed_is (pos n) h = printed_is n h
 signed_is (negsuc n) h = ap (λ (l : List ℕ). 45 ∷ l) (printed_is _ h)
+
+-- what is put, printed by the library, is the text of z where z is the number that it was given
+pub shown : {m at r : ℕ} {b e : List ℕ} {y : ℤ} (z : ℤ) → Put m b e at r (signed_decimal y) → y ≡ z → SFits w64 z → Put m b e at r (decimal z)
+shown z f i h = rw (i, signed_is z (omega (arith, nat_abs-le z h.sfits))) at f
 
 -- below 10 ^ k, k turns are enough: so a large number's digits compute
 pub digits_by : (k n : ℕ) → n < 10 ^ suc k → n < 2 ^ 64 → digits n ≡ digits_in (suc k) n
