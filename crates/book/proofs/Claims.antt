@@ -1,13 +1,11 @@
 -- Demand 3: every list of book seconds. Assumes nothing.
 use mathlib.Core.Path.{◌≡◌, refl, sym, ap, ◌∙◌, subst}
 use mathlib.Core.List.{List, [], ◌∷◌}
-use mathlib.Core.Bool.{Bool, true, false, not, cond}
 use Prim.Native.Nat.{ℕ, zero, suc, ◌%◌, ◌≤◌}
 use native.Mathlib.Numerals.{add-one}
 use native.Mathlib.Omega.{arith}
-use borrow.Author.Tests.{eqb-true}
-use lib.Dec.{eqb}
 use Rattle.std.proofs.lemmas.Int.{ints}
+use Rattle.std.proofs.lemmas.Bool.Decides.{nat_tests}
 use lib.IntN.{◌+ℤ◌}
 use lib.ListN.{length, length-map}
 use Rattle.sheet.specs.declared.Sheet.{Sheet}
@@ -131,11 +129,7 @@ claims sh i ss = subst (λ (k : Book). ListHolds sh k [] [] ss) (fresh_is sh) (l
 
 pub whole : (t : ℕ) → hand_over_number t ≡ 0 → t % quarter_hour ≡ 0
 unfolding hand_over_number
-whole t e = go (eqb (t % quarter_hour) 0) refl e
-  where
-    go : (b : Bool) → eqb (t % quarter_hour) 0 ≡ b → ◌≡◌ {A = ℕ} (cond (not b) 29 0) 0 → t % quarter_hour ≡ 0
-    go true q e = eqb-true _ _ q
-    go false q e = absurd (omega arith)
+whole t e = grind (arith, nat_tests)
 
 -- what goes on after a handover was left by accepted seconds too
 module _ (sh : Sheet) (c : Closed) (h : History) (a : Accepted c h) where

@@ -3,11 +3,9 @@ use mathlib.Core.Path.{◌≡◌, refl, sym, ap, ◌∙◌, subst}
 use mathlib.Core.List.{List}
 use Prim.Native.Nat.{ℕ, ◌*◌}
 use native.Mathlib.Omega.{arith}
-use borrow.Author.Tests.{eqb-true, not-false}
-use lib.Dec.{eqb}
+use Rattle.std.proofs.lemmas.Bool.Decides.{nat_tests}
 use lib.ListN.{length, take, drop, length-take, length-drop}
 use lib.Seq.{take_all, drop-drop}
-use Rattle.numbers.proofs.Rules.{none}
 use Rattle.refusals.specs.declared.Refusal.{Refusal}
 use Rattle.refusals.specs.Refusals.{number_of}
 use Rattle.refusals.proofs.Laws.{Positive, positive, number_positive}
@@ -17,13 +15,13 @@ use Rattle.record.specs.Record.{size, book_size}
 use Rattle.book.specs.declared.Book.{Book}
 use Rattle.book.specs.Answers.{BookStep, Refused}
 use Rattle.book.specs.Seconds.{History, Closed, unit_bytes, a_bytes, b_bytes}
-use Rattle.book.specs.Refusals.{form_rules, form_number, Accepted}
+use Rattle.book.specs.Refusals.{form_number, Accepted}
 use Rattle.book.specs.State.{second_of, state_of, OverPast, step_by, step_in, PartsOf, PlantsStepped, Ready, Stepped}
 use Rattle.book.proofs.Past.{over_past}
 
 pub whole : (o : ℕ) (s : List ℕ) → form_number (second_of o s) ≡ 0 → length s ≡ book_size
 unfolding form_number
-whole o s e = let n = none (form_rules (second_of o s)) refl e in eqb-true _ _ (not-false (eqb (length s) book_size) n.0)
+whole o s e = grind (arith, nat_tests)
 
 module _ (s : List ℕ) (l : length s ≡ book_size) where
   pub unit_length : length (unit_bytes s) ≡ size

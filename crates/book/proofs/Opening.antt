@@ -1,12 +1,11 @@
 -- A fresh book opened under a sheet, by the sheet's number. Assumes nothing.
-use mathlib.Core.Path.{◌≡◌, refl, sym, ◌∙◌}
-use mathlib.Core.Bool.{Bool, true, false, cond}
-use Prim.Native.Nat.{ℕ}
+use mathlib.Core.Path.{◌≡◌, sym, ◌∙◌}
+use native.Mathlib.Omega.{arith}
 use Rattle.refusals.specs.declared.Refusal.{Refusal}
 use Rattle.refusals.specs.Refusals.{number_of, Given, Refused}
 use Rattle.refusals.proofs.Laws.{number_positive, refused_by, not_zero}
 use Rattle.sheet.specs.declared.Sheet.{Sheet}
-use Rattle.sheet.specs.Sheet.{percent_out, range_out, fcr_reaction_out, afrr_reaction_out, sheet_number}
+use Rattle.sheet.specs.Sheet.{sheet_number}
 use Rattle.sheet.proofs.Ranges.{in_range, ranged}
 use Rattle.book.specs.declared.Book.{Book}
 use Rattle.book.specs.State.{fresh, Ready}
@@ -15,14 +14,7 @@ use Rattle.book.specs.Open.{open_in, OpenedUnder}
 -- no other number than 30
 thirty : (sh : Sheet) → (sheet_number sh ≡ 0 → ⊥) → sheet_number sh ≡ 30
 unfolding sheet_number
-thirty sh = go (percent_out sh) (range_out sh) (fcr_reaction_out sh) (afrr_reaction_out sh)
-  where
-    go : (a b c d : Bool) → (◌≡◌ {A = ℕ} (cond a 30 (cond b 30 (cond c 30 (cond d 30 0)))) 0 → ⊥) → ◌≡◌ {A = ℕ} (cond a 30 (cond b 30 (cond c 30 (cond d 30 0)))) 30
-    go true b c d h = refl
-    go false true c d h = refl
-    go false false true d h = refl
-    go false false false true h = refl
-    go false false false false h = absurd (h refl)
+thirty sh h = grind arith
 
 module _ (sh : Sheet) where
   pub refused : (r : Refusal) → number_of r ≡ sheet_number sh → OpenedUnder sh (Refused (number_of r))

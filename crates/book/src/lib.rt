@@ -35,7 +35,8 @@ pub enum Plant {
     B,
 }
 
-// The sheet, the states of the three plants, and the kept sums.
+// The sheet, the states of the three plants, and the kept sums. That it is `Ready` stands in clauses and is no invariant of the type, which would
+// ask more than they do: of callers, who may make a book from its fields, and of the definitions, which make one of any sheet and any past.
 #[derive(Clone, Copy)]
 pub struct Book {
     pub sheet: Sheet,
@@ -60,6 +61,7 @@ pub enum BookRefusal {
     Of { plant: Plant, refusal: Refusal },
 }
 
+// The kept sums of a book that opens.
 const NO_SUMS: Sums = Sums {
     a: KwSeconds(0),
     b: KwSeconds(0),
@@ -171,8 +173,8 @@ impl Book {
         self.plants(owner, unit, a, b)
     }
 
-    // The unit first, then A, then B: the first refusal leaves with the old book. A pool's working point has the unit's working point
-    // added; its measured has that and the pool's own values at the unit.
+    // The unit first, then A, then B, by `let .. else` on each plant's answer (01, "What form each place needs"): the first refusal leaves the old
+    // book. A pool's working point has the unit's working point added; its measured has that and the pool's own values at the unit.
     fn plants(
         &mut self,
         owner: u8,
