@@ -5,11 +5,12 @@ use Prim.Native.Nat.{ℕ, zero, suc, ◌+◌, ◌*◌, ◌-◌, ◌/◌, ◌≤�
 use native.Mathlib.Nat.{zero-add, le_of_eq}
 use native.Mathlib.Omega.{arith}
 use lib.ListN.{length, take, drop, length-append, length-drop}
-use lib.Seq.{take_at, drop_at, drop-drop, take-add, length-take-le, take_all, take-append-le, drop-append-le}
+use lib.Seq.{take_at, drop_at, drop-drop, take-add, length-take-le, take_all, take-append-le, drop-append-le, take-append-add}
+use borrow.Rule.Slice.PartMut.{put_mid, post_of}
 use Rattle.codec.specs.Put.{Put}
 use Rattle.codec.proofs.Puts.{both, loosen, sized, none}
 use Rattle.choose_meter.specs.Records.{record_size, said_in}
-use Rattle.choose_meter.specs.Printed.{line_text, lines_of, printed, whole_text, rest_of, told, line_width, piece_records, piece_room, Kept}
+use Rattle.choose_meter.specs.Printed.{line_text, lines_of, printed, whole_text, rest_of, told, line_width, piece_size, piece_room, Kept}
 use Rattle.choose_meter.specs.Claims.{joined}
 
 -- ---- record after record
@@ -48,41 +49,72 @@ ahead (suc q) s t h =
 
 -- ---- into a buffer
 
-pub begin : (b s : List ℕ) → Put (0 * line_width) b b 0 0 (lines_of 0 s)
+-- the lines of the first k records of s are put, where the buffer was b and is e, and `rest` comes after them
+pub record SoFar (k : ℕ) (s rest b e : List ℕ) (at : ℕ) : Type 0 where
+  pub within : k * record_size ≤ length s
+  pub stands : rest ≡ drop (k * record_size) s
+  pub put : Put (k * line_width) b e 0 at (lines_of k s)
+
+pub begin : (s b : List ℕ) → SoFar 0 s s b b 0
 unfolding lines_of
-begin b s = none b 0 zero-le
+begin s b = record { within = zero-le; stands = refl; put = none b 0 zero-le }
 
-pub onward :
-    (k : ℕ) (s : List ℕ) {at r : ℕ} {b c e part : List ℕ} →
-    part ≡ take record_size (drop (k * record_size) s) →
-    Put (k * line_width) b c 0 at (lines_of k s) →
-    Put line_width c e at r (line_text (said_in part)) →
-    Put ((k + 1) * line_width) b e 0 r (lines_of (k + 1) s)
-onward k s {at} {r} {b} {c} {e} {part} h f g =
-    loosen (wide k)
-    (subst (λ (l : List ℕ). Put (k * line_width + line_width) b e 0 r l)
-    (ap (λ (p : List ℕ). lines_of k s ++ line_text (said_in p)) h ∙ ap (λ (l : List ℕ). lines_of k s ++ l) (sym (one (drop (k * record_size) s))) ∙ sym (split k 1 s))
-    (both f g))
-  where
-    wide : (k : ℕ) → k * line_width + line_width ≤ (k + 1) * line_width
-    wide k = omega arith
+module _ {k at : ℕ} {s rest b c : List ℕ} (f : SoFar k s rest b c at) where
+  left : length rest ≡ length s - k * record_size
+  left = ap length f.stands ∙ length-drop (k * record_size) s
 
-pub all :
-    (k : ℕ) (s : List ℕ) {at : ℕ} {b e : List ℕ} →
-    k ≤ piece_records →
-    k ≡ length s / record_size →
-    Put (k * line_width) b e 0 at (lines_of k s) →
-    Put piece_room b e 0 at (whole_text s)
-unfolding whole_text
-all k s {at} {b} {e} h n f = loosen (fits k h) (subst (λ (q : ℕ). Put (k * line_width) b e 0 at (lines_of q s)) n f)
-  where
-    fits : (k : ℕ) → k ≤ piece_records → k * line_width ≤ piece_room
-    fits k h = omega arith
+  -- room for one more line
+  pub room : record_size ≤ length rest → length s ≤ piece_size → at + line_width ≤ piece_room
+  room h i = omega (arith, left, f.within, f.put.most)
+
+  -- one more line
+  pub onward :
+      {r : ℕ} {e : List ℕ} (part : List ℕ) {after : List ℕ} →
+      rest ≡ part ++ after →
+      length part ≡ record_size →
+      Put line_width c e at r (line_text (said_in part)) →
+      SoFar (k + 1) s after b e r
+  onward {r} {e} part {after} cut size g =
+      let first : part ≡ take record_size (drop (k * record_size) s) = sym (take_at part after record_size size) ∙ ap (take record_size) (sym cut ∙ f.stands) in
+      let line = ap (λ (p : List ℕ). line_text (said_in p)) first ∙ sym (one (drop (k * record_size) s)) in
+      record {
+        within = omega (arith, left, f.within, ap length cut, length-append part after);
+        stands =
+            sym (drop_at part after record_size size)
+            ∙ ap (drop record_size) (sym cut ∙ f.stands)
+            ∙ drop-drop record_size (k * record_size) s
+            ∙ ap (λ (n : ℕ). drop n s) (next k);
+        put =
+            loosen (wide k)
+            (subst (λ (l : List ℕ). Put (k * line_width + line_width) b e 0 r l)
+            (ap (λ (l : List ℕ). lines_of k s ++ l) line ∙ sym (split k 1 s))
+            (both f.put g));
+      }
+    where
+      next : (k : ℕ) → k * record_size + record_size ≡ (k + 1) * record_size
+      next k = omega arith
+
+      wide : (k : ℕ) → k * line_width + line_width ≤ (k + 1) * line_width
+      wide k = omega arith
+
+  -- the last of them
+  pub all : length rest < record_size → length s ≤ piece_size → Put piece_room b c 0 at (whole_text s)
+  unfolding whole_text
+  all h i =
+      let count : k ≡ length s / record_size = omega (arith, left, f.within) in
+      loosen (omega (arith, count)) (subst (λ (q : ℕ). Put (k * line_width) b c 0 at (lines_of q s)) count f.put)
 
 -- what was put at the front stands there
 pub front : {m r : ℕ} {b e text : List ℕ} → Put m b e 0 r text → take r e ≡ text
 front {b = b} {text = text} f =
     (λ i. take (f.next i) (f.bytes i)) ∙ take_at text (drop (0 + length text) b) (0 + length text) (sym (zero-add (length text)))
+
+-- n bytes of `new`, which stand in b from `from` on
+pub received : (from k n : ℕ) (b new : List ℕ) → from ≤ length b → n ≤ length new → take (from + n) (put_mid from k b new) ≡ take from b ++ take n new
+received from k n b new h i =
+    ap (λ (m : ℕ). take (m + n) (put_mid from k b new)) (sym (length-take-le from b h))
+    ∙ take-append-add (take from b) (new ++ post_of from k b) n
+    ∙ ap (λ (l : List ℕ). take from b ++ l) (take-append-le n new (post_of from k b) i)
 
 -- ---- what is left of a piece
 
@@ -128,7 +160,7 @@ cut_short s h k =
 
 -- ---- piece after piece
 
-more : (s t : List ℕ) → whole_text s ++ printed (rest_of s ++ t) ≡ printed (s ++ t)
+pub more : (s t : List ℕ) → whole_text s ++ printed (rest_of s ++ t) ≡ printed (s ++ t)
 unfolding whole_text rest_of printed
 more s t =
     let q = length s / record_size in

@@ -6,7 +6,8 @@ ghost use Rattle.choose_meter.specs.Records.{record_size, said_in};
 ghost use Rattle.choose_meter.specs.Printed.{line_text, printed, whole_text, line_width, piece_size, piece_room, Kept, Takes};
 
 use crate::records;
-use meters::MeterAnswer;
+use power::Millihertz;
+use refusals::Refusal;
 
 // The bytes that are held at once, and the room that their lines ask for, 14 bytes each.
 pub(crate) const PIECE: usize = RECORDS * records::SIZE;
@@ -15,28 +16,18 @@ pub(crate) const ROOM: usize = RECORDS * 14;
 
 const RECORDS: usize = 256;
 
-// After a piece: `used` bytes of text are in the buffer, and `filled` bytes of a record begun stand at the front.
-#[derive(Clone, Copy)]
-pub(crate) struct Taken {
-    pub used: usize,
-    pub filled: usize,
-}
-
-fn put_answer(buf: &mut [u8], at: usize, answer: MeterAnswer) -> usize
+fn put_answer(buf: &mut [u8], at: usize, answer: Result<Millihertz, Refusal>) -> usize
     requires { at + line_width ≤ length buf.old }
     ensures { Put line_width buf.old buf.new at result (line_text (says answer)) }
 {
-    match answer {
-        MeterAnswer::Deviation(f) => {
+    let at = match answer {
+        Ok(f) => {
             let at = codec::put_byte(buf, at, b'0');
-            let at = line::put_millihertz(buf, at, f);
-            codec::put_byte(buf, at, b'\n')
+            line::put_millihertz(buf, at, f)
         }
-        MeterAnswer::Refused(number) => {
-            let at = line::put_count(buf, at, number as u32);
-            codec::put_byte(buf, at, b'\n')
-        }
-    }
+        Err(refusal) => line::put_count(buf, at, u32::from(refusal.number())),
+    };
+    codec::put_byte(buf, at, b'\n')
 }
 
 // The line of a record of any bytes.
@@ -52,14 +43,9 @@ fn put_lines(buf: &mut [u8], bytes: &[u8]) -> usize
     requires { (length bytes.now ≤ piece_size) × (piece_room ≤ length buf.old) }
     ensures { Put piece_room buf.old buf.new 0 result (whole_text bytes.now) }
 {
-    let count = bytes.len() / records::SIZE;
-    let mut at: usize = 0;
-    let mut k: usize = 0;
-    while k < count {
-        let from = k * records::SIZE;
-        let end = from + records::SIZE;
-        at = put_line(buf, at, &bytes[from..end]);
-        k += 1;
+    let mut at = 0;
+    for record in bytes.chunks_exact(records::SIZE) {
+        at = put_line(buf, at, record);
     }
     at
 }
@@ -74,14 +60,14 @@ fn keep(bytes: &mut [u8], from: usize, end: usize) -> usize
     codec::put_bytes(bytes, 0, &part[..filled])
 }
 
-// The first n bytes are taken.
-pub(crate) fn take(bytes: &mut [u8], n: usize, buf: &mut [u8]) -> Taken
+// The first n bytes are taken: how many bytes of text are in the buffer, and how many of a record begun at the front.
+pub(crate) fn take(bytes: &mut [u8], n: usize, buf: &mut [u8]) -> (usize, usize)
     requires { (n ≤ length bytes.old) × (n ≤ piece_size) × (piece_room ≤ length buf.old) }
-    ensures { Takes bytes.old bytes.new n buf.old buf.new result.used result.filled }
+    ensures { Takes bytes.old bytes.new n buf.old buf.new result.0 result.1 }
 {
     let used = put_lines(buf, &bytes[..n]);
     let filled = keep(bytes, n / records::SIZE * records::SIZE, n);
-    Taken { used, filled }
+    (used, filled)
 }
 
 // The line of a record that the input ends in; nothing where it ends before one.
@@ -89,7 +75,7 @@ pub(crate) fn put_rest(buf: &mut [u8], bytes: &[u8]) -> usize
     requires { (length bytes.now < record_size) × (piece_room ≤ length buf.old) }
     ensures { Put line_width buf.old buf.new 0 result (printed bytes.now) }
 {
-    if bytes.len() == 0 {
+    if bytes.is_empty() {
         return 0;
     }
     put_line(buf, 0, bytes)

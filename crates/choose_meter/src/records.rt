@@ -3,20 +3,21 @@ ghost use Rattle.std.specs.Prelude.{◌≡◌, ◌+◌, ◌≤◌, length, take}
 ghost use Rattle.meters.specs.Meters.{most_meters, says};
 ghost use Rattle.choose_meter.specs.Records.{record_size, meter_size, reading_of, meter_at, meters_in, said_in};
 
-use meters::{Meter, MeterAnswer, Reading};
+use meters::{Meter, Reading};
+use power::Millihertz;
+use refusals::Refusal;
 
 pub(crate) const SIZE: usize = 64;
 
+#[tactic(auto, unfolding(crate::specs::Records::reading_of))]
 fn reading_of(form: u8, value: f32) -> Reading
     ensures { result ≡ reading_of form value }
 {
-    if form == 0 {
-        return Reading::Frequency(value);
+    match form {
+        0 => Reading::Frequency(value),
+        1 => Reading::Deviation(value),
+        _ => Reading::Failed,
     }
-    if form == 1 {
-        return Reading::Deviation(value);
-    }
-    Reading::Failed
 }
 
 fn meter_at(s: &[u8], at: usize) -> Meter
@@ -43,18 +44,16 @@ fn first_four(s: &[u8]) -> [Meter; meters::MOST_METERS]
     ]
 }
 
-fn wide(x: u8) -> usize
-    ensures { result ≡ x }
-{
-    x as usize
-}
-
-// The answer to a record of any bytes.
-pub(crate) fn answer_to(s: &[u8]) -> MeterAnswer
+// The answer to a record of any bytes. Of more than four meters their number is enough.
+pub(crate) fn answer_to(s: &[u8]) -> Result<Millihertz, Refusal>
     ensures { says result ≡ said_in s.now }
 {
     if s.len() != SIZE {
-        return MeterAnswer::Refused(12);
+        return Err(Refusal::Length);
     }
-    meters::choose(first_four(s), wide(s[0]))
+    let places = first_four(s);
+    let Some(meters) = places.get(..usize::from(s[0])) else {
+        return Err(Refusal::MeterCount);
+    };
+    meters::choose(meters)
 }

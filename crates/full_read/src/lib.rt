@@ -7,7 +7,8 @@ ghost use Rattle.std.specs.Io.KnownBytes.{Consumes};
 use std::io::Read;
 
 // Reads until the buffer is full, the input ends or a read fails; how many bytes now stand at the buffer's front. Where the reader's bytes are known,
-// these are the next of them, and no more are taken from it.
+// these are the next of them, and no more are taken from it. A failed read counts as the end: the callers want the bytes before it, which an `Err` would
+// lose.
 pub fn read_full<R: Read>(input: &mut R, bytes: &mut [u8]) -> usize
     ensures within { result ≤ length bytes.new }
     ensures read { Consumes (R.remaining input.old) (R.remaining input.new) (take result bytes.new) }

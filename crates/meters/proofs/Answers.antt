@@ -2,11 +2,11 @@
 use mathlib.Core.Path.{◌≡◌, refl, sym, ap, ◌∙◌, subst}
 use mathlib.Core.Bool.{Bool, true, false, ◌&&◌}
 use mathlib.Core.List.{List, ◌++◌}
-use Prim.Native.Nat.{ℕ, zero, suc, ◌*◌}
+use Prim.Native.Nat.{ℕ, zero, suc, ◌*◌, ◌≤◌, ◌<◌}
 use lib.Dec.{T}
 use lib.IntN.{ℤ, pos, negsuc, neg_ℤ}
 use lib.ListN.{length, take}
-use lib.Seq.{take-take, take-append_seam}
+use lib.Seq.{take-take, take-append_seam, length-take-le}
 use lib.Signed.{le_z}
 use lib.Ieee.{Float}
 use borrow.Author.Tests.{not-false}
@@ -20,11 +20,11 @@ use Rattle.meters.specs.declared.Reading.{Reading}
 use Rattle.meters.specs.declared.Reading.TheVariants.{Frequency, Deviation, Failed}
 use Rattle.meters.specs.declared.Meter.{Meter}
 use Rattle.meters.specs.Binary32.{finite, exact, hertz, nearest_whole, in_mhz}
-use Rattle.meters.specs.Meters.{between, fair_reading, counting, any_usable, exact_deviation, deviation_of, most_meters, count_out, rules, said_by, said_with, said_of, said_at}
+use Rattle.meters.specs.Meters.{between, fair_reading, counting, any_usable, exact_deviation, deviation_of, most_meters, count_out, rules, refused, said_by, said_with, said_of, said_at}
 use Rattle.meters.specs.Claims.{PassesThree}
 use Rattle.meters.proofs.Fifty.{shifted}
 use Rattle.meters.proofs.Round.{size_within, mhz_most}
-use Rattle.meters.proofs.Choice.{usable_fair, counting_usable, count_in_lem, count_out_lem}
+use Rattle.meters.proofs.Choice.{usable_fair, counting_usable, none_or_many, count_in_lem, count_out_lem}
 
 -- ---- refusal 3 never applies
 
@@ -77,6 +77,13 @@ four_places l n = go (count_out n) refl
     go : (t : Bool) → count_out n ≡ t → said_at (take most_meters l) n ≡ said_at l n
     go true e = sym (count_out_lem n (take n (take most_meters l)) e) ∙ count_out_lem n (take n l) e
     go false e = ap (said_with n) (take-take n most_meters l (count_in_lem n e))
+
+-- of the meters in the first places
+pub at_hand : (places : List Meter) (n : ℕ) → n ≤ length places → said_of (take n places) ≡ said_at places n
+at_hand places n h = ap (λ (k : ℕ). said_with k (take n places)) (length-take-le n places h)
+
+pub too_many : (places : List Meter) (n : ℕ) → most_meters < n → refused 27 ≡ said_at places n
+too_many places n h = count_out_lem n (take n places) (none_or_many n (λ k. h))
 
 pub any_number : (ms others : List Meter) → said_at (take most_meters (ms ++ others)) (length ms) ≡ said_of ms
 any_number ms others = four_places (ms ++ others) (length ms) ∙ ap (said_with (length ms)) (take-append_seam ms others)

@@ -2,16 +2,16 @@
 use mathlib.Core.Path.{◌≡◌, refl, sym, ap, ◌∙◌}
 use mathlib.Core.Bool.{Bool, true, false, not, cond, ◌&&◌, ◌||◌}
 use mathlib.Core.List.{List, [], ◌∷◌}
-use Prim.Native.Nat.{ℕ, suc, ◌≤◌, ◌<◌}
+use Prim.Native.Nat.{ℕ, ◌≤◌, ◌<◌}
+use Rattle.std.specs.Prelude.{fold}
+use native.Mathlib.Omega.{arith}
 use lib.Dec.{eqb, ltb}
-use borrow.Author.Tests.{ltb-false}
-use lib.ListN.{length, get_or, drop}
-use lib.Seq.{drop-cons}
+use borrow.Author.Tests.{ltb-false, eqb-false, ne_eqb, le-ltb}
 use lib.Signed.{lt_z}
 use Rattle.meters.specs.declared.Meter.{Meter}
 use lib.IntN.{pos}
 use Rattle.numbers.proofs.Rules.{both_true}
-use Rattle.numbers.proofs.Test.{or_false}
+use Rattle.numbers.proofs.Test.{tests, or_no, or_false}
 use Rattle.meters.specs.Binary32.{finite, exact}
 use Rattle.meters.specs.Meters.{fair_reading, fair_accuracy, usable, smaller, of_two, of_more, failed, counting, any_usable, most_meters, count_out, deviation, refused, said_with, deviation_of}
 
@@ -54,6 +54,8 @@ module _ (a b : Meter) where
       go false true r e f = f
       go false false r e f = e
 
+pub ruleset choosing = (usable_finite, earlier_alone, later_alone, later_smaller, earlier_at_least)
+
 -- ---- of a list
 
 or_assoc : (a b c : Bool) → ((a || b) || c) ≡ (a || (b || c))
@@ -72,12 +74,10 @@ pub failed_unusable : usable failed ≡ false
 unfolding usable fair_reading
 failed_unusable = refl
 
--- one more of a list, at place i
-pub one_more :
-    (l : List Meter) (m n : Meter) (i : ℕ) →
-    i < length l →
-    of_more m (drop i l) ≡ of_more (of_two m (get_or l i n)) (drop (suc i) l)
-one_more l m n i h = ap (of_more m) (drop-cons l i n h)
+-- as a fold
+pub folded : (m : Meter) (ms : List Meter) → fold of_two m ms ≡ of_more m ms
+folded m [] = refl
+folded m (n ∷ ms) = folded (of_two m n) ms
 
 -- the one that counts is usable where one is
 pub counting_usable : (ms : List Meter) → usable (counting ms) ≡ any_usable ms
@@ -89,6 +89,18 @@ counting_usable ms = more_usable failed ms ∙ ap (λ (t : Bool). t || any_usabl
 pub count_in_lem : (n : ℕ) → count_out n ≡ false → n ≤ most_meters
 unfolding count_out
 count_in_lem n e = ltb-false most_meters n (or_false (eqb n 0) (ltb most_meters n) e).1
+
+pub few : (n : ℕ) → 1 ≤ n → n ≤ most_meters → count_out n ≡ false
+unfolding count_out
+few n h k = or_no (eqb n 0) (ltb most_meters n) (ne_eqb n 0 (λ z. omega arith)) (le-ltb most_meters n k)
+
+pub none_or_many : (n : ℕ) → (1 ≤ n → most_meters < n) → count_out n ≡ true
+unfolding count_out
+none_or_many n h = go (eqb n 0) refl
+  where
+    go : (t : Bool) → eqb n 0 ≡ t → (t || ltb most_meters n) ≡ true
+    go true e = refl
+    go false e = let z = eqb-false n 0 e in search (tests, h (omega arith))
 
 module _ (n : ℕ) (ms : List Meter) where
   pub count_out_lem : count_out n ≡ true → refused 27 ≡ said_with n ms

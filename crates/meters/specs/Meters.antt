@@ -1,14 +1,15 @@
 -- Choosing a frequency meter (02, W6).
-use Rattle.std.specs.Prelude.{ℕ, zero, suc, ◌≡◌, Bool, true, false, not, cond, ◌&&◌, ◌||◌, List, [], ◌∷◌, eqb, ltb, ℤ, pos, neg_ℤ, ◌-ℤ◌, length, take, Float}
+use Rattle.std.specs.Prelude.{ℕ, zero, suc, ◌≡◌, Bool, true, false, not, cond, ◌&&◌, ◌||◌, List, [], ◌∷◌, eqb, ltb, ℤ, pos, neg_ℤ, ◌-ℤ◌, length, take, Float, Result, Ok, Err}
 use Rattle.std.specs.Int.Signed.{le_z, lt_z}
 use Rattle.std.specs.Float.{binary32}
 use Rattle.std.specs.Float.Ieee.{of_bits, sub}
+use Rattle.refusals.specs.declared.Refusal.{Refusal}
+use Rattle.refusals.specs.Refusals.{number_of}
 use Rattle.numbers.specs.Rules.{Rule, refuse, first}
+use Rattle.power.specs.declared.frequency.Millihertz.{Millihertz}
 use Rattle.meters.specs.declared.Reading.{Reading}
 use Rattle.meters.specs.declared.Reading.TheVariants.{Frequency, Deviation, Failed}
 use Rattle.meters.specs.declared.Meter.{Meter}
-use Rattle.meters.specs.declared.MeterAnswer.{MeterAnswer}
-use Rattle.meters.specs.declared.MeterAnswer.TheVariants as answer
 use Rattle.meters.specs.Binary32.{finite, exact, hertz, in_mhz}
 
 -- ---- "Usable means: not failed, finite, accuracy finite and above 0, frequency from 45 to 55 or deviation from -5 to 5."
@@ -94,14 +95,14 @@ said_with n ms = said_by (first (rules n ms)) (deviation_of (counting ms))
 abbrev pub said_of : List Meter → Said
 said_of ms = said_with (length ms) ms
 
--- the same from four places and the number of meters, as the code has them: more than four get 27, whatever they are
+-- the same from places and the number of meters, as a record of choose_meter has them: more than four get 27, whatever they are
 abbrev pub said_at : List Meter → ℕ → Said
 said_at places n = said_with n (take n places)
 
 -- what each case of the answer says
-abbrev pub says : MeterAnswer → Said
-says (answer.Deviation f) = deviation f.0
-says (answer.Refused n) = refused n
+abbrev pub says : Result Millihertz Refusal → Said
+says (Ok f) = deviation f.0
+says (Err e) = refused (number_of e)
 
 -- ---- the machine's subtraction
 

@@ -39,6 +39,7 @@ pub(crate) fn of_reading(reading: Reading) -> f32
 }
 
 // n / d to the nearest whole number, a tie to the even one.
+#[tactic(auto, using(numbers::proofs::Test::tests), unfolding(crate::specs::Binary32::nearest_whole))]
 fn nearest(n: u64, d: u64) -> u64
     requires { (n < 2 ^ 34) × (0 < d) × (d ≤ 2 ^ 34) }
     ensures { result ≡ nearest_whole n d }
@@ -72,7 +73,7 @@ pub(crate) fn in_mhz(d: f32) -> Millihertz
     requires { fair_reading (Reading.Deviation d) ≡ true }
     ensures { result.0 ≡ in_mhz (exact d) }
 {
-    let bits = f32::to_bits(d);
+    let bits = d.to_bits();
     let size = size_in_mhz(bits % SIGN) as i32;
     if bits < SIGN {
         Millihertz(size)

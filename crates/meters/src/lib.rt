@@ -4,13 +4,13 @@
 mod binary32;
 mod deviation;
 
-ghost use Rattle.std.specs.Prelude.{◌≡◌, ◌≤◌, true, pos, neg_ℤ, take};
+ghost use Rattle.std.specs.Prelude.{◌≡◌, true, pos, neg_ℤ};
 ghost use Rattle.meters.specs.Binary32.{finite, hertz};
-ghost use Rattle.meters.specs.Meters.{between, fair_reading, fair_accuracy, usable, smaller, of_two, counting, most_meters, count_out, said_at, says};
+ghost use Rattle.meters.specs.Meters.{between, fair_reading, fair_accuracy, usable, smaller, of_two, counting, said_of, says};
 
-use binary32::INFINITY;
 pub use binary32::of_bits;
 use power::Millihertz;
+use refusals::Refusal;
 
 // The meters that serve a plant at most.
 pub const MOST_METERS: usize = 4;
@@ -28,12 +28,6 @@ pub enum Reading {
 pub struct Meter {
     pub reading: Reading,
     pub accuracy: f32,
-}
-
-#[derive(Clone, Copy)]
-pub enum MeterAnswer {
-    Deviation(Millihertz),
-    Refused(u8),
 }
 
 // The range of a usable frequency in Hz, and that of a usable deviation either way.
@@ -57,6 +51,7 @@ fn is_deviation(d: f32) -> bool
     -MOST_DEVIATION <= d && d <= MOST_DEVIATION
 }
 
+#[tactic(auto, unfolding(crate::specs::Meters::fair_reading))]
 fn is_fair_reading(reading: Reading) -> bool
     ensures { result ≡ fair_reading reading }
 {
@@ -67,22 +62,18 @@ fn is_fair_reading(reading: Reading) -> bool
     }
 }
 
-// Finite and above 0. A NaN is not above 0, so its bits are not asked for.
+// Finite and above 0.
 fn is_fair_accuracy(a: f32) -> bool
     ensures { result ≡ fair_accuracy a }
 {
-    if 0.0 < a {
-        f32::to_bits(a) < INFINITY
-    } else {
-        false
-    }
+    a.is_finite() && 0.0 < a
 }
 
+#[tactic(auto, unfolding(crate::specs::Meters::usable))]
 fn is_usable(m: Meter) -> bool
     ensures { result ≡ usable m }
 {
-    let reading = m.reading;
-    is_fair_reading(reading) && is_fair_accuracy(m.accuracy)
+    is_fair_reading(m.reading) && is_fair_accuracy(m.accuracy)
 }
 
 // Whether accuracy figure a is smaller than b.
@@ -94,6 +85,7 @@ fn is_smaller(a: f32, b: f32) -> bool
 }
 
 // Which of two meters counts.
+#[tactic(auto, using(crate::proofs::Choice::choosing))]
 fn of_two(earlier: Meter, later: Meter) -> Meter
     ensures { result ≡ of_two earlier later }
 {
@@ -110,45 +102,27 @@ fn of_two(earlier: Meter, later: Meter) -> Meter
     }
 }
 
-// Which of the first `count` meters counts: a failed one where none is usable.
-fn of_all(meters: [Meter; MOST_METERS], count: usize) -> Meter
-    requires { count ≤ most_meters }
-    ensures { result ≡ counting (take count meters) }
+// Which of all counts: a failed one where none is usable.
+fn of_all(meters: &[Meter]) -> Meter
+    ensures { result ≡ counting meters.now }
 {
-    let mut best = Meter {
+    let failed = Meter {
         reading: Reading::Failed,
         accuracy: 0.0,
     };
-    let mut i = 0;
-    while i < count {
-        best = of_two(best, meters[i]);
-        i += 1;
-    }
-    best
+    meters.iter().copied().fold(failed, of_two)
 }
 
-// No meters, or more than four.
-fn is_count_out(count: usize) -> bool
-    ensures { result ≡ count_out count }
+// The deviation of the meter that counts of those that serve a plant; 27 where there are none or too many of them, 28 where none is usable.
+pub fn choose(meters: &[Meter]) -> Result<Millihertz, Refusal>
+    ensures { says result ≡ said_of meters.now }
 {
-    if count == 0 {
-        return true;
+    if !(1..=MOST_METERS).contains(&meters.len()) {
+        return Err(Refusal::MeterCount);
     }
-    MOST_METERS < count
-}
-
-// The deviation of the meter that counts, of `count` meters that stand in the first places; or a refusal number. More meters than places are
-// refused by their number alone.
-pub fn choose(meters: [Meter; MOST_METERS], count: usize) -> MeterAnswer
-    ensures { says result ≡ said_at meters count }
-{
-    if is_count_out(count) {
-        return MeterAnswer::Refused(27);
-    }
-    let best = of_all(meters, count);
+    let best = of_all(meters);
     if !is_usable(best) {
-        return MeterAnswer::Refused(28);
+        return Err(Refusal::NoUsableMeter);
     }
-    let reading = best.reading;
-    MeterAnswer::Deviation(deviation::in_mhz(deviation::of_reading(reading)))
+    Ok(deviation::in_mhz(deviation::of_reading(best.reading)))
 }

@@ -57,7 +57,7 @@ none_count st [] p e = no_bytes st p
 none_count st (b ∷ s) p e = rw (beyond st p b s (refused_not_due st e), e) (refl, refl)
 
 -- only then are none wanted
-wanted_none : (st : Standing) (filled : ℕ) → filled < block_size → wanted_in st filled ≡ 0 → (s p : List ℕ) → ((bytes_in st p s).text ≡ []) × ((bytes_in st p s).standing ≡ st)
+pub wanted_none : (st : Standing) (filled : ℕ) → filled < block_size → wanted_in st filled ≡ 0 → (s p : List ℕ) → ((bytes_in st p s).text ≡ []) × ((bytes_in st p s).standing ≡ st)
 unfolding wanted_in
 wanted_none st filled h e s p = go st.verdict (is_due st) refl refl e
   where

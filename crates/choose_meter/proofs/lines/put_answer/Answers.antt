@@ -1,17 +1,14 @@
--- A chain of its parts.
+-- Either kind of line is a chain of its parts.
 use Rattle.std.proofs.Common.{arith}
 use Rattle.codec.proofs.Puts.{both, loosen}
 use Rattle.choose_meter.specs.Printed.{line_text}
 use Rattle.choose_meter.proofs.lines.put_answer.Goals as goal
+use Rattle.choose_meter.proofs.lines.put_answer.Goals.{in-Ok, in-Err}
 
-pub returns-in-Deviation : goal.returns-in-Deviation
+pub returns : goal.returns
 unfolding line_text
-returns-in-Deviation c =
-    rw c.in-Deviation.is
-    (loosen (omega arith) (both c.put_byte-at.ensures (both c.put_millihertz-at.ensures c.put_byte.ensures)))
-
-pub returns-in-Refused : goal.returns-in-Refused
-unfolding line_text
-returns-in-Refused c =
-    rw c.in-Refused.is
-    (loosen (omega arith) (both c.put_count-at.ensures c.put_byte-in-Refused.ensures))
+returns c =
+    elim c.match-answer.branch [
+      | in-Ok w ↦ rw w.in-Ok.is (loosen (omega arith) (both w.put_byte-at.ensures (both w.put_millihertz-at.ensures (rw (w.buf-is, w.at-is) at c.put_byte.ensures))))
+      | in-Err w ↦ rw w.in-Err.is (loosen (omega arith) (both (rw (w.from.ensures, w.number.ensures) at w.put_count-at.ensures) (rw (w.buf-is, w.at-is) at c.put_byte.ensures)))
+    ]

@@ -1,22 +1,29 @@
--- The lines of the first k records are put, then that of the next.
-use Rattle.std.proofs.Common.{◌≡◌, ℕ, ◌+◌, ◌*◌, ◌-◌, take, drop, refl, ap, arith}
-use native.Mathlib.Nat.{le_antisymm}
-use Rattle.codec.proofs.Puts.{kept}
+-- The lines of the records so far are put, then that of the next.
+use Rattle.std.proofs.Common.{◌≤◌, ◌<◌, ap, arith, ◌∙◌, length}
+use Rattle.std.proofs.lemmas.List.{length-append}
 use Rattle.choose_meter.specs.Records.{record_size}
-use Rattle.choose_meter.proofs.Laws.{begin, onward, all}
+use Rattle.choose_meter.proofs.Laws.{begin, room, onward, all}
 use Rattle.choose_meter.proofs.lines.put_lines.Goals as goal
 
-pub loop-k-init : goal.loop-k-init
-loop-k-init c = (omega arith, refl, begin _ _)
+pub loop-record-init : goal.loop-record-init
+loop-record-init c =
+    let items = c.chunks_exact-record-items in
+    rw c.into_iter-record-iterator.ensures.into_iter_gives (items.ensures.size, rw items.ensures.rest (begin _ _))
 
-pub loop-k-preserved : goal.loop-k-preserved
-loop-k-preserved c =
-    let s = c.args.bytes.now in
-    let from = c.loop-k.k * record_size in
-    let size : from + record_size - from ≡ record_size = omega arith in
-    let put = onward c.loop-k.k s (ap (λ (n : ℕ). take n (drop from s)) size) c.loop-k.invariant.2 c.put_line-at.ensures in
-    (omega arith, kept put, put)
+pub put_line-at-requires : goal.put_line-at-requires
+put_line-at-requires c =
+    let step = c.in-Some.ensures.steps in
+    let some : record_size ≤ length c.loop-record.record-iterator.rest.now = omega (arith, ap length step.1.0, length-append c.in-Some.record.now c.next.new.self.rest.now, step.1.1) in
+    omega (arith, room c.loop-record.invariant.1 some c.requires.0)
+
+pub loop-record-preserved : goal.loop-record-preserved
+loop-record-preserved c =
+    let step = c.in-Some.ensures.steps in (
+      step.0 ∙ c.loop-record.invariant.0,
+      rw length-append (onward c.loop-record.invariant.1 c.in-Some.record.now step.1.0 (step.1.1 ∙ c.loop-record.invariant.0) c.put_line-at.ensures),
+    )
 
 pub returns : goal.returns
 returns c =
-    all c.loop-k.k c.args.bytes.now (omega (arith, c.requires.0, c.loop-k.invariant.0)) (le_antisymm c.loop-k.invariant.0 c.loop-k-test.false) c.loop-k.invariant.2
+    let none : length c.loop-record.record-iterator.rest.now < record_size = omega (arith, c.in-None.ensures.steps.1) in
+    all c.loop-record.invariant.1 none c.requires.0

@@ -1,11 +1,9 @@
--- The lines of the first k records are put.
-use Rattle.std.proofs.Common.{◌≡◌, ◌*◌, ◌-◌, ◌≤◌, length}
-use Rattle.codec.specs.Put.{Put}
-use Rattle.choose_meter.specs.Printed.{lines_of, line_width}
+-- The lines of the records so far are put, and the bytes after them are left.
+use Rattle.std.proofs.Common.{◌≡◌, length}
+use Rattle.choose_meter.specs.Records.{record_size}
+use Rattle.choose_meter.proofs.Laws.{SoFar}
 use Rattle.choose_meter.proofs.lines.put_lines.Given as goal
 
-abbrev pub invariant-loop-k : goal.invariant-loop-k
-invariant-loop-k l = (l.k ≤ l.count) × (length l.buf ≡ length l.initial.buf) × Put (l.k * line_width) l.initial.buf l.buf 0 l.at (lines_of l.k l.bytes)
-
-abbrev pub decreases-loop-k : goal.decreases-loop-k
-decreases-loop-k l = l.count - l.k
+abbrev pub invariant-loop-record : goal.invariant-loop-record
+invariant-loop-record l =
+    (l.record-iterator.size ≡ record_size) × SoFar (length l.yielded) l.bytes l.record-iterator.rest.now l.initial.buf l.buf l.at

@@ -1,0 +1,60 @@
+// The bytes of the input as they come, and the lines of their records.
+ghost use Rattle.std.specs.Prelude.{◌<◌, ◌≡◌, ◌++◌, List, [], ℕ, take};
+ghost use Rattle.choose_meter.specs.Records.{record_size};
+ghost use Rattle.choose_meter.specs.Printed.{printed};
+
+use crate::lines;
+use sending::{Failure, Session, receive, send};
+use std::io::{Read, Write};
+use std::marker::Model;
+
+// The bytes that are held at once, of which the first `filled` are a record begun, and room for their lines.
+#[derive(Drop)]
+pub(crate) struct Held {
+    bytes: [u8; lines::PIECE],
+    filled: usize,
+    out: [u8; lines::ROOM],
+}
+
+// Seen as the bytes of the record begun.
+impl Model for Held {
+    ghost Value = { List ℕ };
+
+    ghost view = { λ h. take h.filled h.bytes };
+
+    ghost invariant = { λ h. h.filled < record_size };
+}
+
+impl Held {
+    pub(crate) fn new() -> Held
+        ensures { result ≡ [] }
+    {
+        Held {
+            bytes: [0; lines::PIECE],
+            filled: 0,
+            out: [0; lines::ROOM],
+        }
+    }
+}
+
+impl Session for Held {
+    ghost rest = { λ h next. printed (h ++ next) };
+
+    fn turn<R: Read, W: Write>(&mut self, input: &mut R, output: &mut W) -> Result<bool, Failure> {
+        let filled = self.filled;
+        let n = receive(input, &mut self.bytes[filled..])?;
+        if n == 0 {
+            return Ok(false);
+        }
+        let (used, filled) = lines::take(&mut self.bytes, filled + n, &mut self.out);
+        self.filled = filled;
+        send(output, &self.out[..used])?;
+        Ok(true)
+    }
+
+    // The line of a record cut short.
+    fn finish<W: Write>(&mut self, output: &mut W) -> Result<(), Failure> {
+        let end = lines::put_rest(&mut self.out, &self.bytes[..self.filled]);
+        send(output, &self.out[..end])
+    }
+}

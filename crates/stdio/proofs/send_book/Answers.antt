@@ -1,0 +1,6 @@
+-- From the first byte on, that is `printed` of all.
+use Rattle.stdio.proofs.Rest.{from_start}
+use Rattle.stdio.proofs.send_book.Goals as goal
+
+pub returns : goal.returns
+returns g c = rw (from_start c.args.sheet c.args.form c.requires c.new.ensures) at c.run.ensures

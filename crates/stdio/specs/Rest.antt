@@ -1,0 +1,8 @@
+-- What is printed of a book from where it stands on.
+use Rattle.std.specs.Prelude.{List, ℕ, ◌++◌}
+use Rattle.pieces.specs.declared.reading.Reading.{Reading}
+use Rattle.pieces.specs.Pieces.{bytes_in, last_in, part_of}
+
+-- where the bytes s follow and no more
+unfoldable pub rest_of : Reading → List ℕ → List ℕ
+rest_of r s = (bytes_in r.standing (part_of r) s).text ++ last_in (bytes_in r.standing (part_of r) s).standing
