@@ -1,5 +1,5 @@
 -- The oldest comes to the front, where `s` takes its place.
-use Rattle.std.proofs.Common.{◌-◌, length, arith, ap, ◌∙◌, set}
+use Rattle.std.proofs.Common.{◌-◌, length, arith}
 use Rattle.power.proofs.Shift.{turned}
 use Rattle.power.proofs.newest.push_newest.Goals as goal
 
