@@ -1,13 +1,12 @@
 -- Demand 3: every list of book seconds. Assumes nothing.
 use mathlib.Core.Path.{◌≡◌, refl, sym, ap, ◌∙◌, subst}
 use mathlib.Core.List.{List, [], ◌∷◌}
-use mathlib.Core.Bool.{Bool, true, false, not, cond}
 use Prim.Native.Nat.{ℕ, zero, suc, ◌%◌, ◌≤◌}
 use native.Mathlib.Numerals.{add-one}
 use native.Mathlib.Omega.{arith}
-use borrow.Author.Tests.{eqb-true}
-use lib.Dec.{eqb}
-use lib.IntN.{ℤ, ◌+ℤ◌, +ℤ_assoc, +ℤ_comm}
+use Rattle.std.proofs.lemmas.Int.{ints}
+use Rattle.std.proofs.lemmas.Bool.Decides.{nat_tests}
+use lib.IntN.{◌+ℤ◌}
 use lib.ListN.{length, length-map}
 use Rattle.sheet.specs.declared.Sheet.{Sheet}
 use Rattle.sheet.specs.Sheet.{InRange}
@@ -45,17 +44,10 @@ all_accepted (s ∷ ss) c h a = all_accepted ss c (grown c h s) (still_accepted 
 
 -- ---- the balance
 
-six : (a b c A B C : ℤ) → (A +ℤ a) +ℤ (B +ℤ b) +ℤ (C +ℤ c) ≡ (A +ℤ B +ℤ C) +ℤ (a +ℤ b +ℤ c)
-six a b c A B C = simp (+ℤ_assoc, left)
-  where
-    left : (x y z : ℤ) → x +ℤ (y +ℤ z) ≡ y +ℤ (x +ℤ z)
-    left x y z = sym (+ℤ_assoc x y z) ∙ ap (λ (n : ℤ). n +ℤ z) (+ℤ_comm x y) ∙ +ℤ_assoc y x z
-
 balance : (sh : Sheet) → InRange sh → (c : Closed) (h : History) → Accepted c h → sum_a sh c h +ℤ sum_b sh c h +ℤ sum_open sh c h ≡ sum_due h
 unfolding Accepted
 balance sh r c [] a = refl
-balance sh r c (s ∷ h) a =
-    six _ _ _ (sum_a sh c h) (sum_b sh c h) (sum_open sh c h) ∙ (λ i. balance sh r c h a.1 i +ℤ second_balance sh r c h s a.1 (cleared c h s a.0) i)
+balance sh r c (s ∷ h) a = omega (arith, ints, balance sh r c h a.1, second_balance sh r c h s a.1 (cleared c h s a.0))
 
 -- ---- the sums fit
 
@@ -137,11 +129,7 @@ claims sh i ss = subst (λ (k : Book). ListHolds sh k [] [] ss) (fresh_is sh) (l
 
 pub whole : (t : ℕ) → hand_over_number t ≡ 0 → t % quarter_hour ≡ 0
 unfolding hand_over_number
-whole t e = go (eqb (t % quarter_hour) 0) refl e
-  where
-    go : (b : Bool) → eqb (t % quarter_hour) 0 ≡ b → ◌≡◌ {A = ℕ} (cond (not b) 29 0) 0 → t % quarter_hour ≡ 0
-    go true q e = eqb-true _ _ q
-    go false q e = absurd (omega arith)
+whole t e = grind (arith, nat_tests)
 
 -- what goes on after a handover was left by accepted seconds too
 module _ (sh : Sheet) (c : Closed) (h : History) (a : Accepted c h) where

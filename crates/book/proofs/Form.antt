@@ -1,27 +1,27 @@
 -- A book second's form: 12 and 16, and the bytes of the three plants. Assumes nothing.
 use mathlib.Core.Path.{◌≡◌, refl, sym, ap, ◌∙◌, subst}
 use mathlib.Core.List.{List}
-use Prim.Native.Nat.{ℕ, zero, suc, ◌≤◌}
+use Prim.Native.Nat.{ℕ, ◌*◌}
 use native.Mathlib.Omega.{arith}
-use borrow.Author.Tests.{eqb-true, not-false}
-use lib.Dec.{eqb}
+use Rattle.std.proofs.lemmas.Bool.Decides.{nat_tests}
 use lib.ListN.{length, take, drop, length-take, length-drop}
-use lib.Seq.{take_all}
-use Rattle.numbers.proofs.Rules.{none}
+use lib.Seq.{take_all, drop-drop}
+use Rattle.refusals.specs.declared.Refusal.{Refusal}
+use Rattle.refusals.specs.Refusals.{number_of}
+use Rattle.refusals.proofs.Laws.{Positive, positive, number_positive}
 use Rattle.sheet.specs.declared.Sheet.{Sheet}
 use Rattle.sheet.specs.Sheet.{InRange}
 use Rattle.record.specs.Record.{size, book_size}
 use Rattle.book.specs.declared.Book.{Book}
-use Rattle.book.specs.declared.BookAnswer.TheVariants.{Refused}
-use Rattle.book.specs.declared.BookStep.{BookStep}
+use Rattle.book.specs.Answers.{BookStep, Refused}
 use Rattle.book.specs.Seconds.{History, Closed, unit_bytes, a_bytes, b_bytes}
-use Rattle.book.specs.Refusals.{form_rules, form_number, Accepted}
+use Rattle.book.specs.Refusals.{form_number, Accepted}
 use Rattle.book.specs.State.{second_of, state_of, OverPast, step_by, step_in, PartsOf, PlantsStepped, Ready, Stepped}
 use Rattle.book.proofs.Past.{over_past}
 
 pub whole : (o : ℕ) (s : List ℕ) → form_number (second_of o s) ≡ 0 → length s ≡ book_size
 unfolding form_number
-whole o s e = let n = none (form_rules (second_of o s)) refl e in eqb-true _ _ (not-false (eqb (length s) book_size) n.0)
+whole o s e = grind (arith, nat_tests)
 
 module _ (s : List ℕ) (l : length s ≡ book_size) where
   pub unit_length : length (unit_bytes s) ≡ size
@@ -33,14 +33,18 @@ module _ (s : List ℕ) (l : length s ≡ book_size) where
   pub b_length : length (b_bytes s) ≡ size
   b_length = simp (length-take, length-drop) (omega arith)
 
-  -- the last plant's bytes go to the end
-  pub to_the_end : (n : ℕ) → size ≤ n → take n (drop 72 s) ≡ b_bytes s
-  to_the_end n h = take_all n (drop 72 s) (simp length-drop (omega arith)) ∙ sym (take_all size (drop 72 s) (simp length-drop (omega arith)))
+  -- split off one by one: the last plant's bytes go to the end
+  pub parts_of : {u p a b : List ℕ} → u ≡ take size s → p ≡ drop size s → a ≡ take size p → b ≡ drop size p → PartsOf s u a b
+  parts_of u p a b =
+      record {
+        unit_part = u;
+        a_part = a ∙ ap (take size) p;
+        b_part = b ∙ ap (drop size) p ∙ drop-drop size size s ∙ sym (take_all size (drop (2 * size) s) (simp length-drop (omega arith)));
+      }
 
 module _ (k : Book) (o : ℕ) (s : List ℕ) where
-  by_refusal : (n : ℕ) (given : BookStep) → (n ≡ 0 → ⊥) → record { answer = Refused n; book = k } ≡ step_by n k given
-  by_refusal zero given h = absurd (h refl)
-  by_refusal (suc n) given h = refl
+  by_refusal : {n : ℕ} (given : BookStep) → Positive n → record { answer = Refused n; book = k } ≡ step_by n k given
+  by_refusal given (positive n) = refl
 
   same_sheet : (sh : Sheet) (c : Closed) (h : History) → k ≡ state_of sh c h → k.sheet ≡ sh
   unfolding state_of
@@ -49,12 +53,12 @@ module _ (k : Book) (o : ℕ) (s : List ℕ) where
   by_past : Ready k → {r : BookStep} → r ≡ step_in k (second_of o s) → (sh : Sheet) (c : Closed) (h : History) → Accepted c h → k ≡ state_of sh c h → OverPast sh c h (second_of o s) r
   by_past ready e sh c h a p = rw (e, p) (over_past sh (subst InRange (same_sheet sh c h p) ready.unit.sheet) c h a (second_of o s))
 
-  pub refused : {n : ℕ} → n ≡ form_number (second_of o s) → (n ≡ 0 → ⊥) → Ready k → Stepped k (second_of o s) (record { answer = Refused n; book = k })
+  pub refused : (x : Refusal) → number_of x ≡ form_number (second_of o s) → Ready k → Stepped k (second_of o s) (record { answer = Refused (number_of x); book = k })
   unfolding step_in
-  refused {n} e h r =
-      let is : record { answer = Refused n; book = k } ≡ step_in k (second_of o s) = rw (← e) (by_refusal n _ h) in
+  refused x e r =
+      let is : record { answer = Refused (number_of x); book = k } ≡ step_in k (second_of o s) = rw (← e) (by_refusal _ (number_positive x)) in
       record { is = is; past = by_past r is; ready = r }
 
-  pub stepped : {u a b : List ℕ} → Ready k → (p : BookStep) → form_number (second_of o s) ≡ 0 → PartsOf s u a b → PlantsStepped k o u a b p → Stepped k (second_of o s) p
+  pub stepped : {u a b : List ℕ} {p : BookStep} → Ready k → 0 ≡ form_number (second_of o s) → PartsOf s u a b → PlantsStepped k o u a b p → Stepped k (second_of o s) p
   unfolding step_in
-  stepped r p e parts q = let is : p ≡ step_in k (second_of o s) = rw e (q.is s parts) in record { is = is; past = by_past r is; ready = q.ready }
+  stepped {p = p} r e parts q = let is : p ≡ step_in k (second_of o s) = rw (← e) (q.is s parts) in record { is = is; past = by_past r is; ready = q.ready }

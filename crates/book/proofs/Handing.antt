@@ -1,5 +1,5 @@
 -- A handover, by the length of the closing book. Assumes nothing.
-use mathlib.Core.Path.{◌≡◌, refl, sym, ap, ◌∙◌, subst}
+use mathlib.Core.Path.{◌≡◌, refl, sym, ap, ◌∙◌}
 use mathlib.Core.Bool.{Bool, true, false, not}
 use mathlib.Core.List.{[], ◌∷◌}
 use Prim.Native.Nat.{ℕ, ◌%◌}
@@ -7,17 +7,16 @@ use borrow.Author.Tests.{eq-eqb, ne_eqb}
 use lib.Dec.{eqb}
 use lib.ListN.{length, length-map}
 use Rattle.sheet.specs.declared.Sheet.{Sheet}
-use Rattle.row.specs.declared.sums.Sums.{Sums}
 use Rattle.mfrr.specs.Signal.{quarter_hour}
 use Rattle.plant.specs.declared.PlantState.{PlantState}
 use Rattle.plant.specs.State as plant
 use Rattle.plant.specs.Seconds as plant-seconds
 use Rattle.book.specs.declared.Book.{Book}
-use Rattle.book.specs.declared.OpenAnswer.TheVariants.{Opened, Refused}
+use Rattle.refusals.specs.Refusals.{Refused}
 use Rattle.book.specs.Seconds.{History, Closed, unit_bytes, a_bytes, b_bytes, past_of, closed_of}
 use Rattle.book.specs.Sums.{sums_of, no_sums}
-use Rattle.book.specs.State.{state_of, SumsReady, Ready}
-use Rattle.book.specs.HandOver.{hand_over_number, handed_over, hand_over_by, hand_over_in, AtHandOver, Opening, HandedOver}
+use Rattle.book.specs.State.{state_of, Ready}
+use Rattle.book.specs.HandOver.{Opened, hand_over_number, handed_over, hand_over_by, hand_over_in, AtHandOver, HandedOver}
 use Rattle.book.proofs.Sizes.{sums_none}
 
 -- ---- over the past
@@ -56,33 +55,26 @@ at_hand_over sh c h =
 abbrev Opens : PlantState → PlantState → Type 0
 Opens st r = (r ≡ plant.handed_over st) × ((sh : Sheet) → plant.Ready sh st → plant.Ready sh r)
 
-pub with_states :
-    {k : Book} {q : Sums} {u a b : PlantState} → Ready k → Opens k.unit u → Opens k.a a → Opens k.b b
-    → Opening k q (record { sheet = k.sheet; unit = u; a = a; b = b; sums = q })
-with_states {k} {q} r eu ea eb =
-    record {
-      is = λ i. record { sheet = k.sheet; unit = eu.0 i; a = ea.0 i; b = eb.0 i; sums = q };
-      unit = eu.1 k.sheet r.unit;
-      a = ea.1 k.sheet r.a;
-      b = eb.1 k.sheet r.b;
-    }
-
 -- w is what `is_whole` answers of the book's count
-module _ (k : Book) {w : Bool} (ew : w ≡ eqb (k.unit.seconds % quarter_hour) 0) where
+module _ (k : Book) (ready : Ready k) {w : Bool} (ew : w ≡ eqb (k.unit.seconds % quarter_hour) 0) where
   past : (sh : Sheet) (c : Closed) (h : History) → k ≡ state_of sh c h → AtHandOver sh k c h
   past sh c h e = rw e (at_hand_over sh c h)
 
-  pub refused : not w ≡ true → Ready k → HandedOver k (record { answer = Refused 29; book = k })
+  pub refused : not w ≡ true → HandedOver k (record { answer = Refused 29; book = k })
   unfolding hand_over_in hand_over_number
-  refused n r = let t : not (eqb (k.unit.seconds % quarter_hour) 0) ≡ true = ap not (sym ew) ∙ n in record { is = rw t; number = rw t; past = past; ready = r }
+  refused n =
+      let t : not (eqb (k.unit.seconds % quarter_hour) 0) ≡ true = ap not (sym ew) ∙ n in
+      record { is = rw t; number = rw t; past = past; ready = ready }
 
-  pub opened : not w ≡ false → {q : Sums} {r : Book} → q ≡ no_sums → Opening k q r → HandedOver k (record { answer = Opened; book = r })
+  pub opened :
+      {u a b : PlantState} → not w ≡ false → Opens k.unit u → Opens k.a a → Opens k.b b
+      → HandedOver k (record { answer = Opened; book = record { sheet = k.sheet; unit = u; a = a; b = b; sums = no_sums } })
   unfolding hand_over_in hand_over_number
-  opened n {q} {r} e o =
+  opened n u a b =
       let t : not (eqb (k.unit.seconds % quarter_hour) 0) ≡ false = ap not (sym ew) ∙ n in
       record {
-        is = rw (t, o.is, e);
+        is = rw (t, u.0, a.0, b.0);
         number = rw t;
         past = past;
-        ready = record { unit = o.unit; a = o.a; b = o.b; sums = subst (SumsReady _) (sym (ap (λ (p : Book). p.sums) o.is ∙ e)) (sums_none _) };
+        ready = record { unit = u.1 k.sheet ready.unit; a = a.1 k.sheet ready.a; b = b.1 k.sheet ready.b; sums = sums_none _ };
       }

@@ -10,7 +10,6 @@ use Rattle.sheet.specs.Sheet.{InRange}
 use Rattle.record.specs.Record.{record_of}
 use Rattle.row.specs.Fits.{Row32}
 use Rattle.sharing.specs.Sizes.{SizedRow}
-use Rattle.sharing.proofs.Sizes.{more}
 use Rattle.plant.specs.Refusals as plant
 use Rattle.plant.specs.Refusals.{most_power}
 use Rattle.plant.specs.Seconds as plant-seconds
@@ -21,9 +20,9 @@ use Rattle.plant.proofs.Claims.{record_number_lem, row_holds, row_fits, none_add
 use Rattle.book.specs.Seconds.{BookSecond, History, Closed, unit_bytes, past_of, closed_of, due_of}
 use Rattle.book.specs.Refusals.{Accepted}
 use Rattle.book.specs.Rows.{Pool, pool_a, pool_b, added_to, unit_point, unit_row_at, pool_row_at, a_row_at, b_row_at}
-use Rattle.book.specs.State.{most_at_unit, most_at_pool, most_values, PowersInRange, Summed}
+use Rattle.book.specs.State.{most_at_unit, most_at_pool, PowersInRange, Summed}
 use Rattle.book.specs.Claims.{PoolHolds, RowsHold}
-use Rattle.book.proofs.Sizes.{shared_within, values_small, difference_small}
+use Rattle.book.proofs.Sizes.{shared_within, added_small, difference_small}
 use Rattle.book.proofs.Past.{Cleared, unit_accepted, a_accepted, b_accepted}
 
 in_range : (c : plant-seconds.Closed) (h : plant-seconds.History) (s : List ℕ) → plant.number_at c h s ≡ 0 → PowersInRange (record_of s)
@@ -48,8 +47,7 @@ module _ (sh : Sheet) (i : InRange sh) (c : Closed) (h : History) (s : BookSecon
   added : (p : Pool) → Added (added_to p s (unit_row_at sh c h s)) (unit_point s.bytes)
   added p =
       record {
-        measured =
-            more most_power most_values most_added _ _ (omega arith) unit_range.working_point_is (values_small (p.sold s.owner) (unit_row_at sh c h s) unit_sized);
+        measured = added_small _ (p.sold s.owner) (unit_row_at sh c h s) unit_range.working_point_is unit_sized;
         working_point_is = unit_range.working_point_is;
       }
 

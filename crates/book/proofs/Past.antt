@@ -6,17 +6,18 @@ use lib.IntN.{ℤ, pos}
 use lib.ListN.{length-map}
 use Rattle.numbers.specs.Rules.{or_else}
 use Rattle.numbers.proofs.Rules.{neither}
+use Rattle.refusals.specs.Refusals as plant-answer
 use Rattle.sheet.specs.declared.Sheet.{Sheet}
 use Rattle.sheet.specs.Sheet.{InRange}
 use Rattle.record.specs.Record.{record_of}
 use Rattle.row.specs.declared.Row.{Row}
-use Rattle.plant.specs.declared.PlantStep.{PlantStep}
+use Rattle.plant.specs.State.{PlantStep}
 use Rattle.plant.specs.Refusals as plant-refusals
 use Rattle.plant.specs.Rows as plant
 use Rattle.plant.specs.State as plant-state
 use Rattle.plant.proofs.Past.{over_bytes}
 use Rattle.plant.proofs.Claims.{record_number_lem, also_accepted, none_accepted, handed_accepted}
-use Rattle.book.specs.declared.BookStep.{BookStep}
+use Rattle.book.specs.Answers.{BookStep}
 use Rattle.book.specs.declared.Plant.TheVariants.{A, B}
 use Rattle.book.specs.Seconds.{BookSecond, History, Closed, unit_bytes, a_bytes, b_bytes, past_of, closed_of}
 use Rattle.book.specs.Refusals.{form_number, unit_number, a_number, b_number, number_at, AcceptedAfter, AllClosed, Accepted, grown_by, grown}
@@ -109,15 +110,15 @@ module _ (sh : Sheet) (r : InRange sh) (c : Closed) (h : History) (accepted : Ac
   unfolding pool_in state_of
   b_over = over_bytes sh r (closed_of b_bytes c) (past_of b_bytes h) (b_accepted c h accepted) (b_bytes s.bytes) _ _
 
-  unit_answer : (unit_in (state_of sh c h) s).answer ≡ plant.answer_by (unit_number c h s) u
+  unit_answer : (unit_in (state_of sh c h) s).answer ≡ plant-answer.answer_by (unit_number c h s) u
   unfolding unit_row_at plant.answer_at
   unit_answer = ap (λ (p : PlantStep). p.answer) unit_over
 
-  a_answer : (a_in (state_of sh c h) s u).answer ≡ plant.answer_by (a_number c h s) a
+  a_answer : (a_in (state_of sh c h) s u).answer ≡ plant-answer.answer_by (a_number c h s) a
   unfolding pool_row_at plant.answer_at
   a_answer = ap (λ (p : PlantStep). p.answer) a_over
 
-  b_answer : (b_in (state_of sh c h) s u).answer ≡ plant.answer_by (b_number c h s) b
+  b_answer : (b_in (state_of sh c h) s u).answer ≡ plant-answer.answer_by (b_number c h s) b
   unfolding pool_row_at plant.answer_at
   b_answer = ap (λ (p : PlantStep). p.answer) b_over
 

@@ -1,202 +1,171 @@
 -- The book second plant by plant. Assumes nothing.
-use mathlib.Core.Path.{◌≡◌, sym, ap, ◌∙◌, subst}
+use mathlib.Core.Path.{◌≡◌, refl, sym, ap, ◌∙◌, subst}
 use mathlib.Core.List.{List}
 use Prim.Native.Nat.{ℕ, ◌+◌, ◌≤◌}
 use native.Mathlib.Omega.{arith}
 use lib.IntN.{ℤ, pos, ◌+ℤ◌}
 use Rattle.numbers.specs.Bounds.{Within}
 use Rattle.numbers.proofs.Fit.{fit, within_lit}
+use Rattle.refusals.specs.Refusals as plant-answer
 use Rattle.sheet.specs.declared.Sheet.{Sheet}
+use Rattle.record.specs.declared.KindBits.{KindBits}
 use Rattle.record.specs.declared.Record.{Record}
-use Rattle.record.specs.Record.{most_seconds, record_of}
+use Rattle.record.specs.Record.{most_seconds, record_of, bits_of}
 use Rattle.row.specs.declared.Row.{Row}
 use Rattle.row.specs.declared.sums.Sums.{Sums}
 use Rattle.sharing.specs.Sizes.{SizedRow}
-use Rattle.plant.specs.declared.PlantAnswer.TheVariants as plant-answer
 use Rattle.plant.specs.declared.PlantState.{PlantState}
-use Rattle.plant.specs.declared.PlantStep.{PlantStep}
 use Rattle.plant.specs.Refusals.{most_power}
-use Rattle.plant.specs.Rows as plant-rows
 use Rattle.plant.specs.State as plant
-use Rattle.plant.specs.State.{most_added}
+use Rattle.plant.specs.State.{PlantStep, most_added}
 use Rattle.plant.proofs.Counted as plant-counted
 use Rattle.book.specs.declared.Book.{Book}
-use Rattle.book.specs.declared.BookAnswer.TheVariants.{Rows}
-use Rattle.book.specs.declared.BookStep.{BookStep}
 use Rattle.book.specs.declared.Plant.TheVariants.{U, A, B}
+use Rattle.book.specs.Answers.{BookStep, Rows}
 use Rattle.book.specs.Seconds.{due_from, due_of}
-use Rattle.book.specs.Rows.{values_of, unit_point, Pool, pool_a, pool_b}
-use Rattle.book.specs.State.{second_of, unit_in, pool_in, a_in, b_in, sums_with, refused_by, plants_in, most_at_unit, most_at_pool, Ready, SumsReady, PowersInRange, Summed, PartsOf, PlantsStepped}
-use Rattle.book.proofs.Sizes.{shared_within, difference_small, sums_longer, sums_more}
+use Rattle.book.specs.Rows.{values_of, others, sold_by_a, sold_by_b, unit_point, Pool, pool_a, pool_b}
+use Rattle.book.specs.State.{second_of, unit_in, pool_in, sums_with, refused_by, plants_in, most_at_unit, most_at_pool, Ready, SumsReady, PowersInRange, Summed, PartsOf, PlantsStepped}
+use Rattle.book.proofs.Sizes.{added_small, shared_within, difference_small, sums_longer, sums_more}
 
 -- ---- a plant's second
 
--- the step that the plant at the state st answered, for the bytes s with m and w added
-pub record Answered (sh : Sheet) (st : PlantState) (s : List ℕ) (m w : ℤ) : Type 0 where
-  pub step : PlantStep
-  pub stepped : plant.Stepped sh st s m w step
+-- the plant at the state st gives the row r for the bytes s, with m and w added, and is at the state q then
+abbrev Gives : Sheet → PlantState → List ℕ → ℤ → ℤ → Row → PlantState → Type 0
+Gives sh st s m w r q = plant.Stepped sh st s m w (record { answer = plant-answer.Given r; state = q })
 
--- and it gave a row
-pub record RowGiven (sh : Sheet) (st : PlantState) (s : List ℕ) (m w : ℤ) : Type 0 where
-  pub answered : Answered sh st s m w
-  pub row : Row
-  pub gave : answered.step.answer ≡ plant-answer.Row row
+-- or refuses it with the number n
+abbrev Refuses : Sheet → PlantState → List ℕ → ℤ → ℤ → ℕ → PlantState → Type 0
+Refuses sh st s m w n q = plant.Stepped sh st s m w (record { answer = plant-answer.Refused n; state = q })
 
-module _ {sh : Sheet} {st : PlantState} {s : List ℕ} {m w : ℤ} (g : RowGiven sh st s m w) where
+module _ {sh : Sheet} {st : PlantState} {s : List ℕ} {m w : ℤ} {r : Row} {q : PlantState} (g : Gives sh st s m w r q) where
   range : PowersInRange (record_of s)
-  range = let f = g.answered.stepped.facts.given g.gave in record { measured = f.measured; working_point_is = f.working_point_is }
+  range = let f = g.facts.given refl in record { measured = f.measured; working_point_is = f.working_point_is }
 
-  sized : (M W D : ℕ) → most_power + M + (most_power + W) ≤ D → Within M m → Within W w → SizedRow D g.row
-  sized M W D h a b = (g.answered.stepped.facts.given g.gave).sized D (shared_within M W D (record_of s) m w h range a b)
+  sized : (M W D : ℕ) → most_power + M + (most_power + W) ≤ D → Within M m → Within W w → SizedRow D r
+  sized M W D h a b = (g.facts.given refl).sized D (shared_within M W D (record_of s) m w h range a b)
 
-  counted : g.answered.step.state.seconds ≡ st.seconds + 1
-  counted = rw g.answered.stepped.is (plant-counted.counted sh st s m w g.row (rw g.answered.stepped.is at g.gave))
+  counted : q.seconds ≡ st.seconds + 1
+  counted = ap (λ (p : PlantStep). p.state.seconds) g.is ∙ plant-counted.counted sh st s m w r (sym (ap (λ (p : PlantStep). p.answer) g.is))
 
--- ---- what is known at each place
+-- ---- the unit's
 
--- what `plants` is given
-pub record Asked : Type 0 where
-  pub book : Book
-  pub owner : ℕ
-  pub unit : List ℕ
-  pub a : List ℕ
-  pub b : List ℕ
-  pub ready : Ready book
+-- the working point in its bytes u
+abbrev pub point : List ℕ → ℤ
+point u = (record_of u).working_point.0
 
-abbrev Of : Asked → List ℕ → Type 0
-Of q s = PartsOf s q.unit q.a q.b
+module _ {sh : Sheet} {st : PlantState} {u : List ℕ} {r : Row} {q : PlantState} (g : Gives sh st u (pos 0) (pos 0) r q) where
+  pub point_small : Within most_power (point u)
+  point_small = (range g).working_point_is
 
-abbrev pub Right : Asked → BookStep → Type 0
-Right q r = PlantsStepped q.book q.owner q.unit q.a q.b r
+  pub unit_sized : SizedRow most_at_unit r
+  unit_sized = sized g 0 0 most_at_unit (omega arith) (within_lit 0 (pos 0) tt) (within_lit 0 (pos 0) tt)
 
--- the unit gave its row, and its record was read
-pub record UnitGiven (q : Asked) : Type 0 where
-  pub given : RowGiven q.book.sheet q.book.unit q.unit (pos 0) (pos 0)
-  pub fields : Record
-  pub is_record : fields ≡ record_of q.unit
+-- ---- a pool's
 
-abbrev pub point : {q : Asked} → UnitGiven q → ℤ
-point g = g.fields.working_point.0
+-- what its measured has added, where b are the kinds that it sells, u the unit's bytes and r the unit's row
+abbrev pub added : KindBits → List ℕ → Row → ℤ
+added b u r = point u +ℤ values_of b r
 
--- what the pool's measured has added
-pub record AddedTo (q : Asked) (g : UnitGiven q) (pool : Pool) : Type 0 where
-  pub sum : ℤ
-  pub is : sum ≡ point g +ℤ values_of (pool.sold q.owner) g.given.row
-  pub small : Within most_added sum
+-- its second, as it is asked with the unit's record x and the kinds that the owner's bits say that B sells
+module _ (o : ℕ) (u : List ℕ) (r : Row) {x : Record} {sold : KindBits} {sh : Sheet} {st : PlantState} {s : List ℕ} {m : ℤ} {p : PlantStep} (ex : x ≡ record_of u) (es : sold ≡ bits_of o) where
+  asked : {b y : KindBits} → y ≡ b → m ≡ x.working_point.0 +ℤ values_of y r → plant.Stepped sh st s m x.working_point.0 p → plant.Stepped sh st s (added b u r) (point u) p
+  asked eb em h =
+      subst (λ (n : ℤ). plant.Stepped sh st s n (point u) p) (em ∙ (λ i. (ex i).working_point.0 +ℤ values_of (eb i) r))
+      (subst (λ (z : Record). plant.Stepped sh st s m z.working_point.0 p) ex h)
 
--- the pool at the state st gave its row for the bytes s
-pub record PoolGiven (q : Asked) (g : UnitGiven q) (pool : Pool) (st : PlantState) (s : List ℕ) : Type 0 where
-  pub added : AddedTo q g pool
-  pub given : RowGiven q.book.sheet st s added.sum (point g)
+  pub a_asked :
+      {y : KindBits} → y ≡ others sold → m ≡ x.working_point.0 +ℤ values_of y r → plant.Stepped sh st s m x.working_point.0 p
+      → plant.Stepped sh st s (added (sold_by_a o) u r) (point u) p
+  a_asked e em h = asked (e ∙ ap others es) em h
 
--- ---- the unit
+  pub b_asked : m ≡ x.working_point.0 +ℤ values_of sold r → plant.Stepped sh st s m x.working_point.0 p → plant.Stepped sh st s (added (sold_by_b o) u r) (point u) p
+  b_asked em h = asked es em h
 
-unit_is : (q : Asked) (p : Answered q.book.sheet q.book.unit q.unit (pos 0) (pos 0)) (s : List ℕ) → Of q s → p.step ≡ unit_in q.book (second_of q.owner s)
-unfolding unit_in
-unit_is q p s parts = p.stepped.is ∙ ap (λ (l : List ℕ). plant.step_in q.book.sheet q.book.unit l (pos 0) (pos 0)) parts.unit_part
+-- ---- what `plants` is given: the book k, the owner o, and the bytes u, a and b
 
-pub unit_refused : (q : Asked) (p : Answered q.book.sheet q.book.unit q.unit (pos 0) (pos 0)) {n r : ℕ} → p.step.answer ≡ plant-answer.Refused n → r ≡ plant-rows.number_in p.step.answer → Right q (refused_by q.book U r)
-unfolding plants_in
-unit_refused q p e h = record { is = λ s parts. rw (← (unit_is q p s parts), h, e); ready = q.ready }
+module _ (k : Book) (o : ℕ) (u a b : List ℕ) (ready : Ready k) where
+  unit_is : {p : PlantStep} → plant.Stepped k.sheet k.unit u (pos 0) (pos 0) p → (s : List ℕ) → PartsOf s u a b → unit_in k (second_of o s) ≡ p
+  unfolding unit_in
+  unit_is h s parts = rw (← parts.unit_part) (sym h.is)
 
-module _ (q : Asked) (g : UnitGiven q) where
-  pub unit_sized : SizedRow most_at_unit g.given.row
-  unit_sized = sized g.given 0 0 most_at_unit (omega arith) (within_lit 0 (pos 0) tt) (within_lit 0 (pos 0) tt)
+  pub unit_refused : {n : ℕ} {q : PlantState} → Refuses k.sheet k.unit u (pos 0) (pos 0) n q → PlantsStepped k o u a b (refused_by k U n)
+  unfolding plants_in
+  unit_refused h = record { is = λ s parts. rw (unit_is h s parts); ready = ready }
 
-  pub point_small : Within most_power (point g)
-  point_small = subst (λ (y : Record). Within most_power y.working_point.0) (sym g.is_record) (range g.given).working_point_is
+  -- ---- the unit gave the row r
 
-  point_is : (s : List ℕ) → Of q s → point g ≡ unit_point s
-  point_is s parts = ap (λ (y : Record). y.working_point.0) (g.is_record ∙ ap record_of parts.unit_part)
+  module _ {r : Row} {q : PlantState} (g : Gives k.sheet k.unit u (pos 0) (pos 0) r q) where
+    pool_is :
+        (pool : Pool) {st : PlantState} {l : List ℕ} {p : PlantStep} → plant.Stepped k.sheet st l (added (pool.sold o) u r) (point u) p → (s : List ℕ) → PartsOf s u a b → l ≡ pool.bytes s
+        → pool_in k.sheet pool st (second_of o s) r ≡ p
+    unfolding pool_in
+    pool_is pool {st} h s parts e =
+        let w : unit_point s ≡ point u = ap point (sym parts.unit_part) in
+        (λ i. plant.step_in k.sheet st (sym e i) (w i +ℤ values_of (pool.sold o) r) (w i)) ∙ sym h.is
 
-  -- ---- a pool
+    pool_sized : (pool : Pool) {st : PlantState} {l : List ℕ} {x : Row} {y : PlantState} → Gives k.sheet st l (added (pool.sold o) u r) (point u) x y → SizedRow most_at_pool x
+    pool_sized pool h = sized h most_added most_power most_at_pool (omega arith) (added_small (point u) (pool.sold o) r (point_small g) (unit_sized g)) (point_small g)
 
-  pool_is :
-      (pool : Pool) (st : PlantState) (l : List ℕ) (m : AddedTo q g pool) (p : Answered q.book.sheet st l m.sum (point g)) (s : List ℕ) → Of q s → l ≡ pool.bytes s
-      → p.step ≡ pool_in q.book.sheet pool st (second_of q.owner s) g.given.row
-  unfolding pool_in
-  pool_is pool st l m p s parts el =
-      let n : m.sum ≡ unit_point s +ℤ values_of (pool.sold q.owner) g.given.row = m.is ∙ (λ i. point_is s parts i +ℤ values_of (pool.sold q.owner) g.given.row) in
-      p.stepped.is ∙ (λ i. plant.step_in q.book.sheet st (el i) (n i) (point_is s parts i))
-
-  pool_sized : {pool : Pool} {st : PlantState} {l : List ℕ} (p : PoolGiven q g pool st l) → SizedRow most_at_pool p.given.row
-  pool_sized p = sized p.given most_added most_power most_at_pool (omega arith) p.added.small point_small
-
-  module _ (m : AddedTo q g pool_a) (p : Answered q.book.sheet q.book.a q.a m.sum (point g)) where
-    a_is : (s : List ℕ) → Of q s → p.step ≡ a_in q.book (second_of q.owner s) g.given.row
-    a_is s parts = pool_is pool_a q.book.a q.a m p s parts parts.a_part
-
-    pub a_refused : {n r : ℕ} → p.step.answer ≡ plant-answer.Refused n → r ≡ plant-rows.number_in p.step.answer → Right q (refused_by q.book A r)
+    pub a_refused : {n : ℕ} {q : PlantState} → Refuses k.sheet k.a a (added (pool_a.sold o) u r) (point u) n q → PlantsStepped k o u a b (refused_by k A n)
     unfolding plants_in
-    a_refused e h =
-        record { is = λ s parts. rw (← (unit_is q g.given.answered s parts), g.given.gave, ← (a_is s parts), h, e); ready = q.ready }
+    a_refused h = record { is = λ s parts. rw (unit_is g s parts, pool_is pool_a h s parts parts.a_part); ready = ready }
 
-  module _ (a : PoolGiven q g pool_a q.book.a q.a) where
-    module _ (m : AddedTo q g pool_b) (p : Answered q.book.sheet q.book.b q.b m.sum (point g)) where
-      b_is : (s : List ℕ) → Of q s → p.step ≡ b_in q.book (second_of q.owner s) g.given.row
-      b_is s parts = pool_is pool_b q.book.b q.b m p s parts parts.b_part
+    -- ---- A gave the row x
 
-      pub b_refused : {n r : ℕ} → p.step.answer ≡ plant-answer.Refused n → r ≡ plant-rows.number_in p.step.answer → Right q (refused_by q.book B r)
+    module _ {x : Row} {qa : PlantState} (ga : Gives k.sheet k.a a (added (pool_a.sold o) u r) (point u) x qa) where
+      pub b_refused : {n : ℕ} {q : PlantState} → Refuses k.sheet k.b b (added (pool_b.sold o) u r) (point u) n q → PlantsStepped k o u a b (refused_by k B n)
       unfolding plants_in
-      b_refused e h =
+      b_refused h =
           record {
-            is =
-                λ s parts.
-                rw
-                (← (unit_is q g.given.answered s parts), g.given.gave, ← (a_is a.added a.given.answered s parts), a.given.gave, ← (b_is s parts), h, e);
-            ready = q.ready;
+            is = λ s parts. rw (unit_is g s parts, pool_is pool_a ga s parts parts.a_part, pool_is pool_b h s parts parts.b_part);
+            ready = ready;
           }
 
-    -- ---- all three rows
+      -- ---- and B the row y, where d is due
 
-    module _ (b : PoolGiven q g pool_b q.book.b q.b) where
-      pub ranges : PowersInRange (record_of q.unit) × PowersInRange (record_of q.a) × PowersInRange (record_of q.b)
-      ranges = (range g.given, range a.given, range b.given)
-
-      module _ (d : ℤ) (ed : d ≡ due_from q.unit q.a q.b) where
-        pub summed : Summed g.given.row a.given.row b.given.row d
+      module _ {y : Row} {qb : PlantState} (gb : Gives k.sheet k.b b (added (pool_b.sold o) u r) (point u) y qb) {d : ℤ} (ed : d ≡ due_from u a b) where
+        summed : Summed r x y d
         summed =
             record {
-              unit_sized = unit_sized;
-              a_sized = pool_sized a;
-              b_sized = pool_sized b;
+              unit_sized = unit_sized g;
+              a_sized = pool_sized pool_a ga;
+              b_sized = pool_sized pool_b gb;
               due_small =
-                  let x = difference_small _ ranges.0 in
-                  let y = difference_small _ ranges.1 in
-                  let z = difference_small _ ranges.2 in
+                  let l = difference_small _ (range g) in
+                  let m = difference_small _ (range ga) in
+                  let n = difference_small _ (range gb) in
                   rw ed (search fit);
             }
 
-        pub sums_ready : SumsReady most_seconds q.book.sums
-        sums_ready = sums_longer q.book.unit.seconds most_seconds q.book.sums q.ready.unit.count q.ready.sums
+        pub may_sum : SumsReady most_seconds k.sums × Summed r x y d
+        may_sum = (sums_longer k.unit.seconds most_seconds k.sums ready.unit.count ready.sums, summed)
 
-        due_is : (s : List ℕ) → Of q s → d ≡ due_of s
-        unfolding due_of
-        due_is s parts = ed ∙ (λ i. due_from (parts.unit_part i) (parts.a_part i) (parts.b_part i))
+        abbrev rows_step : Sums → BookStep
+        rows_step t = record { answer = Rows r x y; book = record { sheet = k.sheet; unit = q; a = qa; b = qb; sums = t } }
 
-        module _ (t : Sums) (et : t ≡ sums_with q.book.sums g.given.row a.given.row b.given.row d) where
-          abbrev rows_step : BookStep
-          rows_step =
-              record {
-                answer = Rows g.given.row a.given.row b.given.row;
-                book = record { sheet = q.book.sheet; unit = g.given.answered.step.state; a = a.given.answered.step.state; b = b.given.answered.step.state; sums = t };
-              }
+        rows_are : {t : Sums} → t ≡ sums_with k.sums r x y d → (s : List ℕ) → PartsOf s u a b → rows_step t ≡ plants_in k (second_of o s)
+        unfolding plants_in due_of
+        rows_are et s parts =
+            rw (
+              unit_is g s parts,
+              pool_is pool_a ga s parts parts.a_part,
+              pool_is pool_b gb s parts parts.b_part,
+              ← parts.unit_part,
+              ← parts.a_part,
+              ← parts.b_part,
+              ← ed,
+              et,
+            )
 
-          rows_are : (s : List ℕ) → Of q s → rows_step ≡ plants_in q.book (second_of q.owner s)
-          unfolding plants_in
-          rows_are s parts =
-              rw
-              (← (unit_is q g.given.answered s parts), g.given.gave, ← (a_is a.added a.given.answered s parts), a.given.gave, ← (b_is b.added b.given.answered s parts), b.given.gave, ← (due_is s parts), et)
-
-          pub all_rows : Right q rows_step
-          all_rows =
-              record {
-                is = rows_are;
-                ready =
-                    record {
-                      unit = g.given.answered.stepped.facts.ready;
-                      a = a.given.answered.stepped.facts.ready;
-                      b = b.given.answered.stepped.facts.ready;
-                      sums = rw (et, counted g.given) (sums_more q.book.unit.seconds q.book.sums _ _ _ d q.ready.sums summed);
-                    };
-              }
+        pub all_rows : {t : Sums} → t ≡ sums_with k.sums r x y d → PlantsStepped k o u a b (rows_step t)
+        all_rows et =
+            record {
+              is = rows_are et;
+              ready =
+                  record {
+                    unit = g.facts.ready;
+                    a = ga.facts.ready;
+                    b = gb.facts.ready;
+                    sums = rw (et, counted g) (sums_more k.unit.seconds k.sums _ _ _ d ready.sums summed);
+                  };
+            }

@@ -1,13 +1,15 @@
 -- A second's figures and their sums are small enough. Assumes nothing.
+use mathlib.Core.Path.{◌≡◌}
 use mathlib.Core.Bool.{Bool, true, false}
 use Prim.Native.Nat.{ℕ, ◌+◌, ◌*◌, ◌≤◌, zero-le}
 use native.Mathlib.Nat.{mul-le-mul_right}
 use native.Mathlib.Omega.{arith}
-use lib.IntN.{ℤ, pos, ◌+ℤ◌, +ℤ_idr}
+use Rattle.std.proofs.lemmas.Int.{ints}
+use lib.IntN.{ℤ, pos, ◌+ℤ◌}
 use Rattle.numbers.specs.Bounds.{Within}
 use mir.Syntax.{w32, w64}
 use mir.Val.{SFits}
-use Rattle.numbers.proofs.Fit.{fit, within_le}
+use Rattle.numbers.proofs.Fit.{fit}
 use Rattle.power.specs.Units.{most_reserve}
 use Rattle.record.specs.declared.KindBits.{KindBits}
 use Rattle.record.specs.declared.Record.{Record}
@@ -17,64 +19,56 @@ use Rattle.row.specs.declared.sums.Sums.{Sums}
 use Rattle.row.specs.Fits.{Sums64}
 use Rattle.record.specs.Record.{most_seconds}
 use Rattle.plant.specs.Refusals.{most_power}
+use Rattle.plant.specs.State.{most_added}
 use Rattle.plant.specs.Rows.{shared_difference}
 use Rattle.sharing.specs.Sizes.{SizedRow}
-use Rattle.sharing.proofs.Sizes.{less, more}
 use Rattle.book.specs.Seconds.{difference}
 use Rattle.book.specs.Rows.{value_if, values_of}
 use Rattle.book.specs.Sums.{kw_seconds, actuals_of, open_of}
-use Rattle.book.specs.State.{most_summand, most_at_unit, most_at_pool, most_values, most_in_second, sums_with, SumsReady, PowersInRange, Summed}
+use Rattle.book.specs.State.{most_at_unit, most_at_pool, most_values, most_in_second, sums_with, SumsReady, PowersInRange, Summed}
 
 three : (B C : ℕ) (x y z : ℤ) → 3 * B ≤ C → Within B x → Within B y → Within B z → Within C (x +ℤ (y +ℤ z))
-three B C x y z h p q r = more B (2 * B) C x (y +ℤ z) (omega arith) p (more B B (2 * B) y z (omega arith) q r)
-
-pub three_fit : (x y z : ℤ) → Within most_summand x → Within most_summand y → Within most_summand z → SFits w32 (x +ℤ (y +ℤ z))
-three_fit x y z p q r = let h = three most_summand (3 * most_summand) x y z (omega arith) p q r in search fit
+three B C x y z h p q r = record { within = omega (arith, ints) }
 
 -- ---- the unit's values
 
 -- an actual value at the unit
-abbrev pub most_actual : ℕ
+abbrev most_actual : ℕ
 most_actual = most_at_unit + 4 * most_reserve
 
 value : (t : Bool) (k : KindRow) → Within most_actual k.actual.0 → Within most_actual (value_if t k)
 value true k h = h
 value false k h = search fit
 
-module _ (b : KindBits) (r : Row) (s : SizedRow most_at_unit r) where
-  pub fcr_value : Within most_actual (value_if b.fcr r.fcr)
-  fcr_value = value b.fcr r.fcr s.fcr.actual
+pub values_small : (b : KindBits) (r : Row) → SizedRow most_at_unit r → Within most_values (values_of b r)
+unfolding values_of
+values_small b r s =
+    three most_actual most_values _ _ _ (omega arith) (value b.fcr r.fcr s.fcr.actual) (value b.afrr r.afrr s.afrr.actual) (value b.mfrr r.mfrr s.mfrr.actual)
 
-  pub afrr_value : Within most_actual (value_if b.afrr r.afrr)
-  afrr_value = value b.afrr r.afrr s.afrr.actual
+-- what a pool's measured has added: the unit's working point and the pool's own values there
+pub added_small : (p : ℤ) (b : KindBits) (r : Row) → Within most_power p → SizedRow most_at_unit r → Within most_added (p +ℤ values_of b r)
+added_small p b r w s = let v = values_small b r s in record { within = omega (arith, ints) }
 
-  pub mfrr_value : Within most_actual (value_if b.mfrr r.mfrr)
-  mfrr_value = value b.mfrr r.mfrr s.mfrr.actual
-
-  pub values_small : Within most_values (values_of b r)
-  unfolding values_of
-  values_small = three most_actual most_values _ _ _ (omega arith) fcr_value afrr_value mfrr_value
+pub added_fits : (p v : ℤ) (b : KindBits) (r : Row) → v ≡ values_of b r → Within most_power p → SizedRow most_at_unit r → SFits w32 (p +ℤ v)
+added_fits p v b r e w s = rw e (let l = added_small p b r w s in search fit)
 
 -- measured - working point of a record as shared, where sharing adds m and w
 pub shared_within : (M W D : ℕ) (x : Record) (m w : ℤ) → most_power + M + (most_power + W) ≤ D → PowersInRange x → Within M m → Within W w → Within D (shared_difference x m w)
 shared_within M W D x m w h r p q =
-    less (most_power + M) (most_power + W) D _ _ h
-    (more most_power M (most_power + M) _ m (omega arith) r.measured p)
-    (more most_power W (most_power + W) _ w (omega arith) r.working_point_is q)
+    record { within = omega (arith, ints) }
 
 -- ---- what is added to the sums
 
 pub actuals_small : (r : Row) → SizedRow most_at_pool r → Within most_in_second (actuals_of r)
 actuals_small r s =
-    let B = most_at_pool + 4 * most_reserve in
-    rw (+ℤ_idr r.mfrr.actual.0) (three (most_at_pool + 4 * most_reserve) most_in_second _ _ _ (omega arith) s.fcr.actual s.afrr.actual s.mfrr.actual)
+    record { within = omega (arith, ints, s.fcr.actual.within, s.afrr.actual.within, s.mfrr.actual.within) }
 
 pub open_small : (u a b : Row) → SizedRow most_at_unit u → SizedRow most_at_pool a → SizedRow most_at_pool b → Within most_in_second (open_of u a b)
 open_small u a b p q r =
-    three most_at_pool most_in_second _ _ _ (omega arith) (within_le most_at_unit most_at_pool _ p.open_within tt) q.open_within r.open_within
+    record { within = omega (arith, ints) }
 
 pub difference_small : (x : Record) → PowersInRange x → Within most_at_unit (difference x)
-difference_small x r = less most_power most_power most_at_unit _ _ (omega arith) r.measured r.working_point_is
+difference_small x r = record { within = omega (arith, ints) }
 
 -- ---- the sums
 
@@ -83,10 +77,6 @@ sums_none n = record { a = none; b = none; «open» = none; due = none }
   where
     none : Within (n * most_in_second) (pos 0)
     none = record { within = zero-le }
-
--- a sum that is kept, and one second's addition
-pub sum_fits : (x y : ℤ) → Within (most_seconds * most_in_second) x → Within most_in_second y → SFits w64 (x +ℤ y)
-sum_fits x y p q = search fit
 
 longer : (n m : ℕ) (z : ℤ) → n ≤ m → Within (n * most_in_second) z → Within (m * most_in_second) z
 longer n m z h p = record { within = omega (arith, p.within, mul-le-mul_right most_in_second h) }
@@ -103,7 +93,7 @@ sums_longer n m q h r =
 
 module _ (n : ℕ) (q : Sums) (u a b : Row) (d : ℤ) (r : SumsReady n q) (s : Summed u a b d) where
   added : (x y : ℤ) → Within (n * most_in_second) x → Within most_in_second y → Within ((n + 1) * most_in_second) (x +ℤ y)
-  added x y p k = more (n * most_in_second) most_in_second ((n + 1) * most_in_second) x y (omega arith) p k
+  added x y p k = record { within = omega (arith, ints) }
 
   pub sums_more : SumsReady (n + 1) (sums_with q u a b d)
   unfolding sums_with

@@ -7,7 +7,7 @@ use Rattle.record.specs.Record.{record_of}
 use Rattle.row.specs.Fits.{Row32, Sums64}
 use Rattle.plant.specs.Claims.{RowHolds}
 use Rattle.book.specs.declared.Book.{Book}
-use Rattle.book.specs.declared.BookAnswer.TheVariants.{Rows}
+use Rattle.book.specs.Answers.{Rows}
 use Rattle.book.specs.Seconds.{BookSecond, History, Closed, unit_bytes, past_of, closed_of}
 use Rattle.book.specs.Refusals.{number_at, Accepted, grown}
 use Rattle.book.specs.Rows.{Pool, pool_a, pool_b, added_to, unit_point, unit_row_at, a_row_at, b_row_at}

@@ -3,7 +3,7 @@
 use Rattle.std.specs.Prelude.{ℕ, ◌≡◌, List, [], ◌∷◌, ◌++◌, map, ◌+ℤ◌, length}
 use Rattle.sheet.specs.declared.Sheet.{Sheet}
 use Rattle.record.specs.Record.{moved_back}
-use Rattle.row.specs.declared.Row.{Row}
+use Rattle.book.specs.declared.BookRows.{BookRows}
 use Rattle.book.specs.Seconds.{BookSecond, History, Closed, unit_bytes, a_bytes, b_bytes}
 use Rattle.book.specs.Refusals.{Accepted}
 use Rattle.book.specs.Rows.{unit_row_at, a_row_at, b_row_at}
@@ -17,12 +17,7 @@ abbrev pub earlier : ℕ → BookSecond → BookSecond
 earlier n s = record { owner = s.owner; bytes = bytes_back n s.bytes }
 
 -- "A book second's row is the rows of U, A and B"; those of a book's accepted seconds, newest first
-pub record BookRow : Type 0 where
-  pub unit : Row
-  pub a : Row
-  pub b : Row
-
-abbrev pub rows_of : Sheet → Closed → History → List BookRow
+abbrev pub rows_of : Sheet → Closed → History → List BookRows
 rows_of sh c [] = []
 rows_of sh c (s ∷ h) = record { unit = unit_row_at sh c h s; a = a_row_at sh c h s; b = b_row_at sh c h s } ∷ rows_of sh c h
 

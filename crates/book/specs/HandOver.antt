@@ -2,14 +2,12 @@
 -- back by the closed book's length and the sums set to 0."
 use Rattle.std.specs.Prelude.{ℕ, zero, suc, ◌%◌, ◌≡◌, List, [], ◌∷◌, length}
 use Rattle.numbers.specs.Rules.{Rule, refuse, first, differ}
+use Rattle.refusals.specs.Refusals.{Answer, Given, Refused, answer_number}
 use Rattle.sheet.specs.declared.Sheet.{Sheet}
 use Rattle.row.specs.declared.sums.Sums.{Sums}
 use Rattle.mfrr.specs.Signal.{quarter_hour}
 use Rattle.plant.specs.State as plant
 use Rattle.book.specs.declared.Book.{Book}
-use Rattle.book.specs.declared.HandOver.{HandOver}
-use Rattle.book.specs.declared.OpenAnswer.{OpenAnswer}
-use Rattle.book.specs.declared.OpenAnswer.TheVariants.{Opened, Refused}
 use Rattle.book.specs.Seconds.{History, Closed}
 use Rattle.book.specs.Sums.{no_sums}
 use Rattle.book.specs.State.{state_of, Ready}
@@ -29,6 +27,15 @@ opening_with k q = record { sheet = k.sheet; unit = plant.handed_over k.unit; a 
 abbrev pub handed_over : Book → Book
 handed_over k = opening_with k no_sums
 
+-- the next book opens, or a number
+abbrev pub Opened : Answer Unit
+Opened = Given tt
+
+-- what a handover gives: the next book, or the closing one as it was
+pub record HandOver : Type 0 where
+  pub answer : Answer Unit
+  pub book : Book
+
 -- "and no state is handed over": the closing book stays as it was
 abbrev pub hand_over_by : ℕ → Book → HandOver
 hand_over_by zero k = record { answer = Opened; book = handed_over k }
@@ -36,11 +43,6 @@ hand_over_by (suc n) k = record { answer = Refused (suc n); book = k }
 
 unfoldable pub hand_over_in : Book → HandOver
 hand_over_in k = hand_over_by (hand_over_number k.unit.seconds) k
-
--- the number that each case of the answer gives, 0 where the book opens
-abbrev pub open_number_in : OpenAnswer → ℕ
-open_number_in Opened = 0
-open_number_in (Refused n) = n
 
 -- the closed books, and the seconds of the book at hand, after the handover of one that accepted h
 abbrev pub closed_by : ℕ → Closed → History → Closed
@@ -64,17 +66,10 @@ pub record AtHandOver (sh : Sheet) (k : Book) (c : Closed) (h : History) : Type 
   -- else the next book opens with nothing accepted, and its past is the closed books' seconds
   pub opened : length h % quarter_hour ≡ 0 → hand_over_in k ≡ record { answer = Opened; book = state_of sh (h ∷ c) [] }
 
--- what the operations ensure
-
-pub record Opening (k : Book) (q : Sums) (r : Book) : Type 0 where
-  pub is : r ≡ opening_with k q
-  pub unit : plant.Ready r.sheet r.unit
-  pub a : plant.Ready r.sheet r.a
-  pub b : plant.Ready r.sheet r.b
-
+-- what the operation ensures
 pub record HandedOver (k : Book) (r : HandOver) : Type 0 where
   pub is : r ≡ hand_over_in k
-  pub number : open_number_in r.answer ≡ hand_over_number k.unit.seconds
+  pub number : answer_number r.answer ≡ hand_over_number k.unit.seconds
   -- where accepted seconds left the book: 29 by their number, or the book that has them as its past
   pub past : (sh : Sheet) (c : Closed) (h : History) → k ≡ state_of sh c h → AtHandOver sh k c h
   -- what callers need to go on

@@ -1,5 +1,6 @@
 pub mod Seconds
 pub mod Refusals
+pub mod Answers
 pub mod Rows
 pub mod Sums
 pub mod State

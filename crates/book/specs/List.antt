@@ -16,6 +16,15 @@ split (suc n) (o ∷ (k ∷ s)) = record { owner = o; bytes = take k s } ∷ spl
 unfoldable pub listed_in : List ℕ → List BookSecond
 listed_in s = split (length s) s
 
+-- past an owner byte: the bytes of its second, and those of the later ones
+abbrev pub own_bytes : List ℕ → List ℕ
+own_bytes [] = []
+own_bytes (k ∷ s) = take k s
+
+abbrev pub later_bytes : List ℕ → List ℕ
+later_bytes [] = []
+later_bytes (k ∷ s) = drop k s
+
 -- every list of seconds, of up to 255 bytes each, is written so
 unfoldable pub written : List BookSecond → List ℕ
 written [] = []

@@ -6,10 +6,9 @@ use Rattle.record.specs.Record.{record_of, bits_of}
 use Rattle.row.specs.declared.KindRow.{KindRow}
 use Rattle.row.specs.declared.Row.{Row}
 use Rattle.plant.specs.Rows as plant
-use Rattle.book.specs.declared.BookAnswer.{BookAnswer}
-use Rattle.book.specs.declared.BookAnswer.TheVariants.{Rows, Refused, RefusedBy}
 use Rattle.book.specs.declared.Plant.{Plant}
 use Rattle.book.specs.declared.Plant.TheVariants.{U, A, B}
+use Rattle.book.specs.Answers.{BookAnswer, Rows, Refused, RefusedBy}
 use Rattle.book.specs.Seconds.{BookSecond, History, Closed, unit_bytes, a_bytes, b_bytes, past_of, closed_of}
 use Rattle.book.specs.Refusals.{form_number, unit_number, a_number, b_number}
 

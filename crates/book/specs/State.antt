@@ -3,23 +3,21 @@
 use Rattle.std.specs.Prelude.{ℕ, zero, suc, ◌+◌, ◌*◌, ◌≡◌, List, [], ℤ, pos, ◌+ℤ◌, length}
 use Rattle.numbers.specs.Bounds.{Within}
 use Rattle.sheet.specs.declared.Sheet.{Sheet}
+use Rattle.refusals.specs.Refusals as plant-answer
+use Rattle.refusals.specs.Refusals.{Answer}
 use Rattle.record.specs.Record.{size, record_of}
 use Rattle.record.specs.declared.Record.{Record}
 use Rattle.row.specs.declared.Row.{Row}
 use Rattle.row.specs.declared.sums.Sums.{Sums}
 use Rattle.sharing.specs.Sizes.{SizedRow}
-use Rattle.plant.specs.declared.PlantAnswer.{PlantAnswer}
-use Rattle.plant.specs.declared.PlantAnswer.TheVariants as plant-answer
 use Rattle.plant.specs.declared.PlantState.{PlantState}
-use Rattle.plant.specs.declared.PlantStep.{PlantStep}
 use Rattle.plant.specs.State as plant
-use Rattle.plant.specs.State.{most_added}
+use Rattle.plant.specs.State.{PlantStep, most_added}
 use Rattle.plant.specs.Refusals.{most_power}
 use Rattle.book.specs.declared.Book.{Book}
-use Rattle.book.specs.declared.BookAnswer.TheVariants.{Rows, Refused, RefusedBy}
-use Rattle.book.specs.declared.BookStep.{BookStep}
 use Rattle.book.specs.declared.Plant.{Plant}
 use Rattle.book.specs.declared.Plant.TheVariants.{U, A, B}
+use Rattle.book.specs.Answers.{BookStep, Rows, Refused, RefusedBy}
 use Rattle.book.specs.Seconds.{BookSecond, History, Closed, unit_bytes, a_bytes, b_bytes, past_of, closed_of, due_of}
 use Rattle.book.specs.Refusals.{form_number, number_at, Accepted, grown}
 use Rattle.book.specs.Rows.{unit_point, Pool, pool_a, pool_b, added_to, answer_at, says, said_at, number_in}
@@ -89,8 +87,8 @@ abbrev pub refused_by : Book → Plant → ℕ → BookStep
 refused_by k p n = record { answer = RefusedBy p n; book = k }
 
 -- what follows a plant's answer: a row goes on, a refusal leaves with its number
-abbrev pub on_row : PlantAnswer → (Row → BookStep) → (ℕ → BookStep) → BookStep
-on_row (plant-answer.Row r) f g = f r
+abbrev pub on_row : Answer Row → (Row → BookStep) → (ℕ → BookStep) → BookStep
+on_row (plant-answer.Given r) f g = f r
 on_row (plant-answer.Refused n) f g = g n
 
 abbrev pub accepted_in : Book → BookSecond → Row → Row → Row → BookStep

@@ -6,9 +6,8 @@ use Rattle.row.specs.declared.KindRow.{KindRow}
 use Rattle.row.specs.declared.Row.{Row}
 use Rattle.row.specs.declared.sums.Sums.{Sums}
 use Rattle.row.specs.Row.{off_rounding, off_row}
-use Rattle.book.specs.declared.BookAnswer.{BookAnswer}
-use Rattle.book.specs.declared.BookAnswer.TheVariants.{RefusedBy}
 use Rattle.book.specs.declared.Plant.TheVariants.{U, A, B}
+use Rattle.book.specs.Answers.{BookAnswer, RefusedBy}
 use Rattle.book.specs.Seconds.{BookSecond, unit_bytes, a_bytes, b_bytes}
 use Rattle.book.specs.Refusals.{form_number}
 use Rattle.book.specs.HandOver.{hand_over_number}

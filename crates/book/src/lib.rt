@@ -6,32 +6,37 @@ mod sums;
 mod unit;
 
 ghost use Rattle.std.specs.Prelude.{◌≡◌, ◌%◌, eqb, length};
-ghost use Rattle.mfrr.specs.Signal.{quarter_hour};
+ghost use Rattle.refusals.specs.Refusals.{told, number_in};
 ghost use Rattle.sheet.specs.Sheet.{InRange};
 ghost use Rattle.record.specs.Record.{size};
+ghost use Rattle.mfrr.specs.Signal.{quarter_hour};
+ghost use Rattle.book.specs.declared.BookRefusal.TheVariants.{Form, Of};
+ghost use Rattle.book.specs.Answers.{refusal_in, book_told};
 ghost use Rattle.book.specs.Refusals.{form_number};
-ghost use Rattle.book.specs.Sums.{no_sums};
-ghost use Rattle.book.specs.HandOver.{Opening, HandedOver};
+ghost use Rattle.book.specs.HandOver.{HandedOver};
 ghost use Rattle.book.specs.Open.{OpenedUnder};
-ghost use Rattle.book.specs.State.{second_of, fresh, refused_by, Ready, PlantsStepped, Stepped};
+ghost use Rattle.book.specs.State.{second_of, fresh, Ready, PlantsStepped, Stepped};
 
 pub use list::run;
-use plant::{PlantAnswer, PlantState, number_in};
+use plant::PlantState;
 use power::Kw;
+use record::KindBits;
+use refusals::Refusal;
 use row::{KwSeconds, Row, Sums};
-use sheet::{Sheet, default_sheet};
+use sheet::Sheet;
 use sums::{due_in, with_second};
 use unit::{added_to, others};
 
 // The plants of a book.
-#[derive(Clone, Copy)]
+#[derive(Clone, Copy, Debug, PartialEq, Eq)]
 pub enum Plant {
     U,
     A,
     B,
 }
 
-// The sheet, the states of the three plants, and the kept sums.
+// The sheet, the states of the three plants, and the kept sums. That it is `Ready` stands in clauses and is no invariant of the type, which would
+// ask more than they do: of callers, who may make a book from its fields, and of the definitions, which make one of any sheet and any past.
 #[derive(Clone, Copy)]
 pub struct Book {
     pub sheet: Sheet,
@@ -41,58 +46,73 @@ pub struct Book {
     pub sums: Sums,
 }
 
-// The rows of U, A and B; a refusal number that names no plant; or a plant's number.
+// The rows of U, A and B in an accepted second.
 #[derive(Clone, Copy)]
-pub enum BookAnswer {
-    Rows { unit: Row, a: Row, b: Row },
-    Refused(u8),
-    RefusedBy { plant: Plant, number: u8 },
+pub struct BookRows {
+    pub unit: Row,
+    pub a: Row,
+    pub b: Row,
 }
 
-#[derive(Clone, Copy)]
-pub struct BookStep {
-    pub answer: BookAnswer,
-    pub book: Book,
+// Why a book second is turned down: by its form, which names no plant, or by one of its plants.
+#[derive(Clone, Copy, Debug, PartialEq, Eq)]
+pub enum BookRefusal {
+    Form(Refusal),
+    Of { plant: Plant, refusal: Refusal },
 }
 
-// The book opens, or the refusal number.
-#[derive(Clone, Copy)]
-pub enum OpenAnswer {
-    Opened,
-    Refused(u8),
+// The kept sums of a book that opens.
+const NO_SUMS: Sums = Sums {
+    a: KwSeconds(0),
+    b: KwSeconds(0),
+    open: KwSeconds(0),
+    due: KwSeconds(0),
+};
+
+impl Plant {
+    // This plant turns the second down.
+    fn refuses(self, refusal: Refusal) -> BookRefusal
+        ensures { result ≡ Of self refusal }
+    {
+        BookRefusal::Of {
+            plant: self,
+            refusal,
+        }
+    }
 }
 
-// What a handover gives: the next book, or the closing one as it was.
-#[derive(Clone, Copy)]
-pub struct HandOver {
-    pub answer: OpenAnswer,
-    pub book: Book,
+impl BookRefusal {
+    pub fn refusal(self) -> Refusal
+        ensures { result ≡ refusal_in self }
+    {
+        match self {
+            BookRefusal::Form(refusal) => refusal,
+            BookRefusal::Of { refusal, .. } => refusal,
+        }
+    }
 }
 
-// What opening gives: a fresh book under the sheet; beside a refusal one under the default sheet, which nobody asked for.
-#[derive(Clone, Copy)]
-pub struct BookOpening {
-    pub answer: OpenAnswer,
-    pub book: Book,
+// A refusal that comes alone is one by the form.
+impl From<Refusal> for BookRefusal {
+    ghost from_gives = { λ refusal e. e ≡ Form refusal };
+
+    fn from(refusal: Refusal) -> BookRefusal {
+        Self::Form(refusal)
+    }
 }
 
-// 12 for a length other than 108, 16 for an owner above 7, or 0.
-fn form_number(owner: u8, bytes: &[u8]) -> u8
-    ensures { result ≡ form_number (second_of owner bytes.now) }
+// A book second is of 108 bytes, and its owner at most 7.
+#[tactic(auto, unfolding(crate::specs::Refusals::form_number))]
+fn check_form(owner: u8, bytes: &[u8]) -> Result<(), Refusal>
+    ensures { number_in result ≡ form_number (second_of owner bytes.now) }
 {
     if bytes.len() != record::BOOK_SIZE {
-        return 12;
+        return Err(Refusal::Length);
     }
     if record::ALL_KINDS < owner {
-        return 16;
+        return Err(Refusal::Owner);
     }
-    0
-}
-
-fn rows(unit: Row, a: Row, b: Row) -> BookAnswer
-    ensures { result ≡ BookAnswer.Rows unit a b }
-{
-    BookAnswer::Rows { unit, a, b }
+    Ok(())
 }
 
 // Whether so many seconds are whole quarter hours.
@@ -102,37 +122,17 @@ fn is_whole(seconds: u32) -> bool
     seconds % mfrr::QUARTER_HOUR == 0
 }
 
-fn no_sums() -> Sums
-    ensures { result ≡ no_sums }
-{
-    let zero = KwSeconds(0);
-    Sums {
-        a: zero,
-        b: zero,
-        open: zero,
-        due: zero,
-    }
-}
-
 impl Book {
-    // A fresh book under a sheet of any figures, or 30.
-    pub fn open(sheet: Sheet) -> BookOpening
-        ensures { OpenedUnder sheet result }
+    // A fresh book under a sheet, unless one of its figures is outside its range.
+    pub fn open(sheet: Sheet) -> Result<Self, Refusal>
+        ensures { OpenedUnder sheet (told result) }
     {
-        let number = sheet.number();
-        if number != 0 {
-            return BookOpening {
-                answer: OpenAnswer::Refused(number),
-                book: Book::new(default_sheet()),
-            };
-        }
-        BookOpening {
-            answer: OpenAnswer::Opened,
-            book: Book::new(sheet),
-        }
+        sheet.check()?;
+        Ok(Book::new(sheet))
     }
 
     // A fresh book under a sheet whose figures are in range.
+    #[tactic(auto, using(crate::proofs::Sizes::sums_none), unfolding(crate::specs::State::fresh))]
     pub fn new(sheet: Sheet) -> Self
         requires { InRange sheet }
         ensures { (result ≡ fresh sheet) × Ready result }
@@ -142,111 +142,78 @@ impl Book {
             unit: PlantState::new(),
             a: PlantState::new(),
             b: PlantState::new(),
-            sums: no_sums(),
+            sums: NO_SUMS,
         }
     }
 
-    // The book that opens with this one's plants, and with the sums given: a parameter, so that which sums these are stands in one place.
-    fn opening(self, sums: Sums) -> Book
-        requires { Ready self }
-        ensures { Opening self sums result }
-    {
-        let kept = sums;
-        let sheet = self.sheet;
-        Book {
-            sheet,
-            unit: self.unit.handed_over(),
-            a: self.a.handed_over(),
-            b: self.b.handed_over(),
-            sums: kept,
-        }
-    }
-
-    // Hands the closing book over (02, W7): the next book opens with the plants' states, nothing counted and nothing kept. 29 where the seconds that
-    // this one accepted are no multiple of 900.
-    pub fn hand_over(self) -> HandOver
-        requires { Ready self }
-        ensures { HandedOver self result }
+    // Hands the closing book over (02, W7): the next book opens with the plants' states, nothing counted and nothing kept. The seconds that this one
+    // accepted have to be a multiple of 900; else it stays as it was.
+    pub fn hand_over(&mut self) -> Result<(), Refusal>
+        requires { Ready self.old }
+        ensures { HandedOver self.old (record { answer = told result; book = self.new }) }
     {
         if !is_whole(self.unit.seconds) {
-            return HandOver {
-                answer: OpenAnswer::Refused(29),
-                book: self,
-            };
+            return Err(Refusal::BookLength);
         }
-        HandOver {
-            answer: OpenAnswer::Opened,
-            book: self.opening(no_sums()),
-        }
+        self.unit = self.unit.handed_over();
+        self.a = self.a.handed_over();
+        self.b = self.b.handed_over();
+        self.sums = NO_SUMS;
+        Ok(())
     }
 
-    // A book second of any owner byte and any bytes.
-    pub fn second(self, owner: u8, bytes: &[u8]) -> BookStep
-        requires { Ready self }
-        ensures { Stepped self (second_of owner bytes.now) result }
+    // A book second of any owner byte and any bytes. One that is turned down leaves the book as it was.
+    pub fn second(&mut self, owner: u8, bytes: &[u8]) -> Result<BookRows, BookRefusal>
+        requires { Ready self.old }
+        ensures { Stepped self.old (second_of owner bytes.now) (record { answer = book_told result; book = self.new }) }
     {
-        let number = form_number(owner, bytes);
-        if number != 0 {
-            return BookStep {
-                answer: BookAnswer::Refused(number),
-                book: self,
-            };
-        }
-        let a_at = record::SIZE;
-        let b_at = 2 * record::SIZE;
-        self.plants(owner, &bytes[..a_at], &bytes[a_at..b_at], &bytes[b_at..])
+        check_form(owner, bytes)?;
+        let (unit, pools) = bytes.split_at(record::SIZE);
+        let (a, b) = pools.split_at(record::SIZE);
+        self.plants(owner, unit, a, b)
     }
 
-    fn refused_by(self, plant: Plant, number: u8) -> BookStep
-        ensures { result ≡ refused_by self plant number }
+    // The unit first, then A, then B, by `let .. else` on each plant's answer (01, "What form each place needs"): the first refusal leaves the old
+    // book. A pool's working point has the unit's working point added; its measured has that and the pool's own values at the unit.
+    fn plants(
+        &mut self,
+        owner: u8,
+        unit: &[u8],
+        a: &[u8],
+        b: &[u8],
+    ) -> Result<BookRows, BookRefusal>
+        requires { Ready self.old × (length unit.now ≡ size) × (length a.now ≡ size) × (length b.now ≡ size) }
+        ensures { PlantsStepped self.old owner unit.now a.now b.now (record { answer = book_told result; book = self.new }) }
     {
-        BookStep {
-            answer: BookAnswer::RefusedBy { plant, number },
-            book: self,
-        }
-    }
-
-    // The unit first, then A, then B: the first refusal leaves with the old book. A pool's working point has the unit's working point
-    // added; its measured has that and the pool's own values at the unit.
-    fn plants(self, owner: u8, unit: &[u8], a: &[u8], b: &[u8]) -> BookStep
-        requires { Ready self × (length unit.now ≡ size) × (length a.now ≡ size) × (length b.now ≡ size) }
-        ensures { PlantsStepped self owner unit.now a.now b.now result }
-    {
-        let sheet = self.sheet;
-        let unit_step = self.unit.second_with(sheet, unit, Kw(0), Kw(0));
-        let unit_answer = unit_step.answer;
-        let PlantAnswer::Row(unit_row) = unit_answer else {
-            return self.refused_by(Plant::U, number_in(unit_answer));
+        let mut next = *self;
+        let unit_answer = next.unit.second_with(self.sheet, unit, Kw(0), Kw(0));
+        let Ok(unit_row) = unit_answer else {
+            return Err(Plant::U.refuses(unit_answer.unwrap_err()));
         };
-        let unit_record = record::fields_of(unit);
-        let point = unit_record.working_point;
-        let sold = record::kind_bits(owner);
-        let a_step = self
-            .a
-            .second_with(sheet, a, added_to(point, others(sold), unit_row), point);
-        let a_answer = a_step.answer;
-        let PlantAnswer::Row(a_row) = a_answer else {
-            return self.refused_by(Plant::A, number_in(a_answer));
+        let point = record::fields_of(unit).working_point;
+        let sold = KindBits::from(owner);
+        let a_answer = next.a.second_with(
+            self.sheet,
+            a,
+            added_to(point, others(sold), unit_row),
+            point,
+        );
+        let Ok(a_row) = a_answer else {
+            return Err(Plant::A.refuses(a_answer.unwrap_err()));
         };
-        let b_step = self
+        let b_answer = next
             .b
-            .second_with(sheet, b, added_to(point, sold, unit_row), point);
-        let b_answer = b_step.answer;
-        let PlantAnswer::Row(b_row) = b_answer else {
-            return self.refused_by(Plant::B, number_in(b_answer));
+            .second_with(self.sheet, b, added_to(point, sold, unit_row), point);
+        let Ok(b_row) = b_answer else {
+            return Err(Plant::B.refuses(b_answer.unwrap_err()));
         };
-        let next_unit = unit_step.state;
-        let next_a = a_step.state;
-        let next_b = b_step.state;
-        BookStep {
-            answer: rows(unit_row, a_row, b_row),
-            book: Book {
-                sheet,
-                unit: next_unit,
-                a: next_a,
-                b: next_b,
-                sums: with_second(self.sums, unit_row, a_row, b_row, due_in(unit, a, b)),
-            },
-        }
+        let rows = BookRows {
+            unit: unit_row,
+            a: a_row,
+            b: b_row,
+        };
+        next.sums = with_second(self.sums, rows, due_in(unit, a, b));
+        *self = next;
+        Ok(rows)
     }
 }

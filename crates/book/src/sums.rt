@@ -7,6 +7,7 @@ ghost use Rattle.book.specs.Seconds.{difference, due_from};
 ghost use Rattle.book.specs.Sums.{actuals_of, open_of};
 ghost use Rattle.book.specs.State.{most_summand, most_at_unit, most_at_pool, sums_with, PowersInRange, Readable, SumsReady, Summed};
 
+use crate::BookRows;
 use power::Kw;
 use record::Record;
 use row::{Row, Sums};
@@ -28,11 +29,11 @@ fn actuals_of(r: Row) -> Kw
 }
 
 // The open of every plant's row.
-fn open_of(u: Row, a: Row, b: Row) -> Kw
-    requires { SizedRow most_at_unit u × SizedRow most_at_pool a × SizedRow most_at_pool b }
-    ensures { result.0 ≡ open_of u a b }
+fn open_of(rows: BookRows) -> Kw
+    requires { SizedRow most_at_unit rows.unit × SizedRow most_at_pool rows.a × SizedRow most_at_pool rows.b }
+    ensures { result.0 ≡ open_of rows.unit rows.a rows.b }
 {
-    sum_of(u.open, a.open, b.open)
+    sum_of(rows.unit.open, rows.a.open, rows.b.open)
 }
 
 // Measured - working point of a record.
@@ -40,9 +41,7 @@ fn difference(x: Record) -> Kw
     requires { PowersInRange x }
     ensures { (result.0 ≡ difference x) × Within most_at_unit result.0 }
 {
-    let measured = x.measured;
-    let working_point = x.working_point;
-    measured.minus(working_point)
+    x.measured.minus(x.working_point)
 }
 
 // What is due in a second, read from its bytes: U, A and B, each once.
@@ -58,18 +57,15 @@ pub(crate) fn due_in(u: &[u8], a: &[u8], b: &[u8]) -> Kw
 }
 
 // The sums with a second more.
-pub(crate) fn with_second(sums: Sums, u: Row, a: Row, b: Row, due: Kw) -> Sums
-    requires { SumsReady most_seconds sums × Summed u a b due.0 }
-    ensures { result ≡ sums_with sums u a b due.0 }
+#[tactic(auto, unfolding(crate::specs::State::sums_with))]
+pub(crate) fn with_second(sums: Sums, rows: BookRows, due: Kw) -> Sums
+    requires { SumsReady most_seconds sums × Summed rows.unit rows.a rows.b due.0 }
+    ensures { result ≡ sums_with sums rows.unit rows.a rows.b due.0 }
 {
-    let sum_a = sums.a;
-    let sum_b = sums.b;
-    let sum_open = sums.open;
-    let sum_due = sums.due;
     Sums {
-        a: sum_a.plus(actuals_of(a)),
-        b: sum_b.plus(actuals_of(b)),
-        open: sum_open.plus(open_of(u, a, b)),
-        due: sum_due.plus(due),
+        a: sums.a.plus(actuals_of(rows.a)),
+        b: sums.b.plus(actuals_of(rows.b)),
+        open: sums.open.plus(open_of(rows)),
+        due: sums.due.plus(due),
     }
 }

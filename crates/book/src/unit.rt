@@ -30,6 +30,7 @@ fn value_if(sold: bool, k: KindRow) -> Kw
 }
 
 // The actual values at the unit of the kinds whose bits are set.
+#[tactic(auto, unfolding(crate::specs::Rows::values_of))]
 fn values_of(b: KindBits, r: Row) -> Kw
     requires { SizedRow most_at_unit r }
     ensures { result.0 ≡ values_of b r }
@@ -42,6 +43,7 @@ fn values_of(b: KindBits, r: Row) -> Kw
 }
 
 // What a pool's measured has added, where the bits are those of its kinds: the unit's working point, and its own values at the unit.
+#[tactic(auto, using(crate::proofs::Sizes::added_small, crate::proofs::Sizes::added_fits))]
 pub(crate) fn added_to(point: Kw, b: KindBits, r: Row) -> Kw
     requires { Within most_power point.0 × SizedRow most_at_unit r }
     ensures { (result.0 ≡ point.0 +ℤ values_of b r) × Within most_added result.0 }

@@ -7,6 +7,7 @@ use native.Mathlib.Omega.{arith}
 use lib.Dec.{T, leb, eqb}
 use lib.IntN.{ℤ, pos}
 use lib.ListN.{length}
+use Rattle.refusals.specs.Refusals.{Answer, answer_by}
 use Rattle.numbers.specs.Bounds.{Within}
 use mir.Syntax.{w32}
 use mir.Val.{SFits, hbits}
@@ -37,12 +38,10 @@ use Rattle.mfrr.specs.Signal.{quarter_hour}
 use Rattle.mfrr.specs.State as mfrr
 use Rattle.afrr.proofs.Claims as afrr-claims
 use Rattle.mfrr.proofs.Claims as mfrr-claims
-use Rattle.plant.specs.declared.PlantAnswer.{PlantAnswer}
-use Rattle.plant.specs.declared.PlantStep.{PlantStep}
 use Rattle.plant.specs.Seconds.{History, Closed, on_timeline, fcr_setpoint, fcr_past, afrr_second, afrr_past, mfrr_second, mfrr_past}
 use Rattle.plant.specs.Refusals.{most_power, record_number_at, number_at, AllClosed, Accepted, grown_by, grown}
-use Rattle.plant.specs.Rows.{kinds_with, kinds_at, row_at, number_in, says, said_by, answer_by, answer_at, shared_difference, figures_of}
-use Rattle.plant.specs.State.{state_of, handed_over, OverPast, most_added, Added, step_in, Ready}
+use Rattle.plant.specs.Rows.{kinds_with, kinds_at, row_at, number_in, says, said_by, answer_at, shared_difference, figures_of}
+use Rattle.plant.specs.State.{PlantStep, state_of, handed_over, OverPast, most_added, Added, step_in, Ready}
 use Rattle.plant.specs.Run.{PlantSecond, state_after, answers, accepted, answers_over}
 use Rattle.plant.specs.Claims.{kind_list, EveryList, RowHolds, Stuck, call_while_off, Claims}
 use Rattle.plant.proofs.Past.{Clear, clear, ready, fcr_ranged, afrr_second_fair, afrr_fair, mfrr_accepted, over_bytes}
@@ -105,7 +104,7 @@ module _ (sh : Sheet) (i : InRange sh) (c : Closed) where
   each_answer [] h a = refl
   each_answer (s ∷ ss) h a =
       let o = over_past sh i c h a s.bytes s.added_measured s.added_point in
-      rw (o.answer, o.state) (ap (λ (l : List PlantAnswer). answer_at sh c h s.bytes s.added_measured s.added_point ∷ l) (each_answer ss (grown c h s.bytes) o.stays))
+      rw (o.answer, o.state) (ap (λ (l : List (Answer Row)). answer_at sh c h s.bytes s.added_measured s.added_point ∷ l) (each_answer ss (grown c h s.bytes) o.stays))
 
   all_accepted : (ss : List PlantSecond) (h : History) → Accepted c h → Accepted c (accepted c h ss)
   unfolding accepted

@@ -8,6 +8,7 @@ use borrow.Author.Tests.{eq-eqb}
 use lib.Dec.{T, eqb}
 use lib.IntN.{pos}
 use lib.ListN.{length}
+use Rattle.refusals.specs.Refusals.{answer_by}
 use Rattle.numbers.specs.Rules.{Rule, refuse, first, differ}
 use Rattle.numbers.proofs.Rules.{none, neither}
 use Rattle.numbers.proofs.Test.{or_false}
@@ -24,7 +25,7 @@ use Rattle.mfrr.specs.State.{second_of}
 use Rattle.mfrr.proofs.Claims as mfrr-claims
 use Rattle.plant.specs.Seconds.{History, Closed, on_timeline, last_status_of, mfrr_second, mfrr_past, setpoints_at}
 use Rattle.plant.specs.Refusals.{held_out, deviation_out, power_out, setpoint_out, call_filled, call_out, kind_moved, any_moved, status_moved, range_rules, record_rules, record_number, off_moves, off_rules, off_number, record_number_at, length_rule, number_at, free_rules_at, free_number_at, AllClosed, Accepted, grown_by, grown}
-use Rattle.plant.specs.Rows.{answer_by, answer_at, row_at}
+use Rattle.plant.specs.Rows.{answer_at, row_at}
 use Rattle.plant.specs.Run.{PlantSecond, accepted}
 use Rattle.plant.specs.Values.{in_status}
 use Rattle.plant.specs.Claims.{QuarterHour, call_while_off}

@@ -6,6 +6,10 @@ use Prim.Native.Nat.{ℕ, zero, suc}
 use lib.Dec.{eqb}
 use lib.IntN.{ℤ}
 use lib.ListN.{length}
+use Rattle.refusals.specs.declared.Refusal.{Refusal}
+use Rattle.refusals.specs.Refusals.{number_of}
+use Rattle.refusals.specs.Refusals as answer
+use Rattle.refusals.proofs.Laws.{Positive, positive, number_positive}
 use Rattle.numbers.specs.Rules.{Rule, first, or_else}
 use Rattle.numbers.proofs.Rules.{numbered, first_append}
 use Rattle.power.specs.declared.kilowatts.Kw.{Kw}
@@ -13,7 +17,6 @@ use Rattle.power.specs.declared.limits.Band.{Band}
 use Rattle.power.specs.Units.{kw}
 use Rattle.power.specs.Inward.{published_of}
 use Rattle.record.specs.declared.Record.{Record}
-use Rattle.record.specs.declared.Reading.TheVariants as reading
 use Rattle.record.specs.Record.{size, record_of, reading_of, bits_of}
 use Rattle.sheet.specs.declared.Sheet.{Sheet}
 use Rattle.sheet.specs.Sheet.{per_kw}
@@ -41,6 +44,16 @@ in_parts t last x calls s n =
 pub record_parts : (t last : ℕ) (x : Record) → record_number t last x ≡ or_else (range_number t x) (first (rest_rules t last x))
 unfolding record_number range_number
 record_parts t last x = first_append (range_rules t x) (rest_rules t last x) refl
+
+-- a number of 1 to 6 comes before the rest, which counts where there is none
+pub by_range : (e : Refusal) (t last : ℕ) (x : Record) → number_of e ≡ range_number t x → number_of e ≡ record_number t last x
+by_range e t last x h = rw (record_parts t last x, ← h) (go (number_positive e))
+  where
+    go : {n : ℕ} → Positive n → n ≡ or_else n (first (rest_rules t last x))
+    go (positive n) = refl
+
+pub by_rest : (t last : ℕ) (x : Record) → 0 ≡ range_number t x → record_number t last x ≡ first (rest_rules t last x)
+by_rest t last x h = rw (record_parts t last x, ← h)
 
 -- ---- at any state the number of a second is the first of them
 
@@ -110,6 +123,6 @@ pub at_any_state : (sh : Sheet) (st : PlantState) (s : List ℕ) (m w : ℤ) →
 unfolding step_in reading_of
 at_any_state sh st s m w = go (eqb (length s) size)
   where
-    go : (t : Bool) → number_in (read_in sh (cond t (reading.Fields (record_of s)) (reading.Refused 12)) st m w).answer ≡ cond (not t) 12 (first (record_rules_in st (record_of s)))
+    go : (t : Bool) → number_in (read_in sh (cond t (answer.Given (record_of s)) (answer.Refused 12)) st m w).answer ≡ cond (not t) 12 (first (record_rules_in st (record_of s)))
     go true = at_record sh st (record_of s) m w
     go false = refl

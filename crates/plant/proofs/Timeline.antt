@@ -2,11 +2,13 @@
 use mathlib.Core.Path.{◌≡◌, refl, ap, ◌∙◌}
 use mathlib.Core.Bool.{Bool, true, false, cond}
 use mathlib.Core.List.{[], ◌∷◌, map}
+use Rattle.std.proofs.Common.{Option, Some, None}
 use Prim.Native.Nat.{ℕ, ◌+◌, ◌%◌}
 use native.Mathlib.Omega.{arith}
 use lib.Dec.{eqb}
 use lib.ListN.{length, length-map, length-append}
 use Rattle.record.specs.declared.Record.{Record}
+use Rattle.mfrr.specs.declared.Call.{Call}
 use Rattle.mfrr.specs.Signal as mfrr
 use Rattle.mfrr.specs.Signal.{quarter_hour}
 use Rattle.mfrr.specs.State.{second_of}
@@ -67,7 +69,10 @@ pub moved_second : (n : ℕ) (x : Record) → mfrr_second (moved_on n x) ≡ mfr
 unfolding second_of
 moved_second n x = go (eqb x.call 1)
   where
-    go : (t : Bool) → second_of t x.mfrr_target (cond t (x.delivery_end + n) x.delivery_end) ≡ mfrr.moved_on n (second_of t x.mfrr_target x.delivery_end)
+    called : Bool → ℕ → Option Call
+    called t D = cond t (Some (record { target = x.mfrr_target; end = D })) None
+
+    go : (t : Bool) → second_of (called t (cond t (x.delivery_end + n) x.delivery_end)) ≡ mfrr.moved_on n (second_of (called t x.delivery_end))
     go true = refl
     go false = refl
 

@@ -1,6 +1,7 @@
 -- What is claimed of a plant second: of every list from a fresh state, and of every accepted second's row. The proof is `claims` of
 -- proofs/Claims.antt.
 use Rattle.std.specs.Prelude.{ℕ, ◌+◌, ◌%◌, ◌≤◌, ◌≡◌, ◌↔◌, ◌⊎◌, true, false, List, [], ◌∷◌, ◌++◌, ℤ, pos, nat_abs, ◌+ℤ◌, length}
+use Rattle.refusals.specs.Refusals.{answer_by}
 use Rattle.numbers.specs.Bounds.{Within}
 use Rattle.numbers.specs.Rules.{first}
 use Rattle.sheet.specs.declared.Sheet.{Sheet}
@@ -14,7 +15,7 @@ use Rattle.sharing.specs.Shares.{some_on}
 use Rattle.sharing.specs.Rows.{kinds_on, error_of, total_of, three}
 use Rattle.plant.specs.Seconds.{History, Closed, last_status_of}
 use Rattle.plant.specs.Refusals.{status_moved, record_number_at, number_at, base_number_at, free_rules_at, free_number_at, Accepted}
-use Rattle.plant.specs.Rows.{kinds_at, shared_difference, row_at, answer_by, answer_at}
+use Rattle.plant.specs.Rows.{kinds_at, shared_difference, row_at, answer_at}
 use Rattle.plant.specs.State.{state_of, handed_over, OverPast, Ready, step_in}
 use Rattle.mfrr.specs.Signal.{quarter_hour}
 use Rattle.plant.specs.Values.{in_status, calling}

@@ -1,6 +1,8 @@
 -- What a plant's state holds after a past, and a plant second from any state: the rules of specs/Refusals.antt and the row of specs/Rows.antt,
 -- on what the state holds.
 use Rattle.std.specs.Prelude.{ℕ, zero, suc, ◌+◌, ◌≤◌, ◌≡◌, List, [], ◌∷◌, ℤ, length}
+use Rattle.refusals.specs.Refusals.{Answer}
+use Rattle.refusals.specs.Refusals as answer
 use Rattle.numbers.specs.Bounds.{Within}
 use Rattle.numbers.specs.Rules.{Rule, first}
 use Rattle.power.specs.declared.kilowatts.Kw.{Kw}
@@ -9,28 +11,23 @@ use Rattle.power.specs.Units.{kw}
 use Rattle.sheet.specs.declared.Sheet.{Sheet}
 use Rattle.sheet.specs.Sheet.{InRange}
 use Rattle.record.specs.declared.Record.{Record}
-use Rattle.record.specs.declared.Reading.{Reading}
-use Rattle.record.specs.declared.Reading.TheVariants as reading
 use Rattle.record.specs.Record.{most_seconds, record_of, reading_of, bits_of}
 use Rattle.row.specs.declared.Row.{Row}
 use Rattle.sharing.specs.Sizes.{SizedKinds, SizedRow}
 use Rattle.fcr.specs.declared.FcrState.{FcrState}
-use Rattle.fcr.specs.declared.FcrStep.{FcrStep}
 use Rattle.fcr.specs.State as fcr
+use Rattle.fcr.specs.State.{FcrStep}
 use Rattle.afrr.specs.declared.AfrrState.{AfrrState}
-use Rattle.afrr.specs.declared.AfrrStep.{AfrrStep}
 use Rattle.afrr.specs.State as afrr
+use Rattle.afrr.specs.State.{AfrrStep}
 use Rattle.mfrr.specs.declared.MfrrState.{MfrrState}
-use Rattle.mfrr.specs.declared.MfrrStep.{MfrrStep}
-use Rattle.mfrr.specs.declared.MfrrAnswer.{MfrrAnswer}
-use Rattle.mfrr.specs.declared.MfrrAnswer.TheVariants as mfrr-answer
+use Rattle.mfrr.specs.declared.MfrrValue.{MfrrValue}
 use Rattle.mfrr.specs.Signal as mfrr-signal
 use Rattle.mfrr.specs.Refusals.{call_rules}
 use Rattle.mfrr.specs.State as mfrr
+use Rattle.mfrr.specs.State.{MfrrStep}
 use Rattle.plant.specs.declared.Kinds.{Kinds}
-use Rattle.plant.specs.declared.PlantAnswer.TheVariants as answer
 use Rattle.plant.specs.declared.PlantState.{PlantState}
-use Rattle.plant.specs.declared.PlantStep.{PlantStep}
 use Rattle.plant.specs.Seconds.{History, Closed, last_status_of, fcr_setpoint, fcr_past, afrr_second, afrr_past, mfrr_second, mfrr_past, setpoints_with}
 use Rattle.plant.specs.Refusals.{most_power, record_number, off_number, rules_with, length_rule, number_at, Accepted, grown}
 use Rattle.plant.specs.Rows.{kinds_with, shared_difference, row_by, said_at, answer_at, says, number_in}
@@ -47,6 +44,11 @@ state_of sh c h =
       mfrr = mfrr.state_of sh (mfrr_past c h);
       last_status = last_status_of c h;
     }
+
+-- a second's answer, and the state after it
+pub record PlantStep : Type 0 where
+  pub answer : Answer Row
+  pub state : PlantState
 
 -- the step r of a second of bytes s after the accepted seconds h: its answer is the one over them, and its state the one that they and, unless
 -- it is refused, this second leave
@@ -117,7 +119,7 @@ step_by (suc n) st given = refused_in st (suc n)
 
 -- no number: the row, and the state after it
 abbrev pub accepted_in : Sheet → PlantState → Record → Kinds → MfrrState → ℤ → ℤ → PlantStep
-accepted_in sh st x k next m w = record { answer = answer.Row (row_by x k m w); state = grown_in sh st x next }
+accepted_in sh st x k next m w = record { answer = answer.Given (row_by x k m w); state = grown_in sh st x next }
 
 -- 11, 24 and 25, after what mFRR gave
 unfoldable pub kinds_step_in : Sheet → PlantState → Record → Kw → Band → MfrrState → ℤ → ℤ → PlantStep
@@ -125,9 +127,9 @@ kinds_step_in sh st x s b next m w =
     step_by (off_number (bits_of x.status) (setpoints_with x s)) st (accepted_in sh st x (kinds_in sh st x s b) next m w)
 
 -- 8 to 10, which mFRR's step gives
-abbrev pub given_in : Sheet → MfrrAnswer → MfrrState → PlantState → Record → ℤ → ℤ → PlantStep
-given_in sh (mfrr-answer.Given s b) next st x m w = kinds_step_in sh st x s b next m w
-given_in sh (mfrr-answer.Refused n) next st x m w = refused_in st n
+abbrev pub given_in : Sheet → Answer MfrrValue → MfrrState → PlantState → Record → ℤ → ℤ → PlantStep
+given_in sh (answer.Given v) next st x m w = kinds_step_in sh st x v.setpoint v.band next m w
+given_in sh (answer.Refused n) next st x m w = refused_in st n
 
 unfoldable pub call_step_in : Sheet → PlantState → Record → ℤ → ℤ → PlantStep
 call_step_in sh st x m w = given_in sh (mfrr_step_in sh st x).answer (mfrr_step_in sh st x).state st x m w
@@ -137,9 +139,9 @@ unfoldable pub record_step_in : Sheet → PlantState → Record → ℤ → ℤ 
 record_step_in sh st x m w = step_by (record_number st.seconds st.last_status x) st (call_step_in sh st x m w)
 
 -- 12
-abbrev pub read_in : Sheet → Reading → PlantState → ℤ → ℤ → PlantStep
-read_in sh (reading.Fields x) st m w = record_step_in sh st x m w
-read_in sh (reading.Refused n) st m w = refused_in st n
+abbrev pub read_in : Sheet → Answer Record → PlantState → ℤ → ℤ → PlantStep
+read_in sh (answer.Given x) st m w = record_step_in sh st x m w
+read_in sh (answer.Refused n) st m w = refused_in st n
 
 -- the second of bytes s at the state st, where sharing adds m to measured and w to working point
 unfoldable pub step_in : Sheet → PlantState → List ℕ → ℤ → ℤ → PlantStep
@@ -181,7 +183,7 @@ pub record Given (x : Record) (m w : ℤ) (q : Row) : Type 0 where
 -- the answer and the state of a step
 pub record StepFacts (sh : Sheet) (x : Record) (m w : ℤ) (r : PlantStep) : Type 0 where
   pub ready : Ready sh r.state
-  pub given : {q : Row} → r.answer ≡ answer.Row q → Given x m w q
+  pub given : {q : Row} → r.answer ≡ answer.Given q → Given x m w q
 
 -- from 8 on, where none of 1 to 7 and 26 applies to the record x
 pub record CallStepped (sh : Sheet) (st : PlantState) (x : Record) (m w : ℤ) (r : PlantStep) : Type 0 where

@@ -1,7 +1,7 @@
 -- Values that hold the record's places and bits. The proof is `values` of proofs/Values.antt.
 use Rattle.std.specs.Prelude.{◌≡◌, true, false, List, [], ◌∷◌, ℕ, pos, negsuc}
 use Rattle.power.specs.Units.{kw}
-use Rattle.record.specs.declared.Reading.TheVariants.{Fields, Refused}
+use Rattle.refusals.specs.Refusals.{Given, Refused}
 use Rattle.record.specs.Record.{record_of, moved_back, reading_of, bits_of}
 
 -- 36 bytes with another figure in each field: 1 to 7 in the powers, a deviation of -1, status 5; with this delivery end and call byte
@@ -15,7 +15,7 @@ bytes = with_end 8 1
 
 pub record Values : Type 0 where
   pub fields : record_of bytes ≡ record { measured = kw (pos 1); working_point = kw (pos 2); fcr_held = kw (pos 3); afrr_up = kw (pos 4); afrr_down = kw (pos 5); afrr_setpoint = kw (pos 6); mfrr_target = kw (pos 7); delivery_end = 8; deviation = record { 0 = negsuc 0 }; status = 5; call = 1 }
-  pub whole : reading_of bytes ≡ Fields (record_of bytes)
+  pub whole : reading_of bytes ≡ Given (record_of bytes)
   pub longer : reading_of (0 ∷ bytes) ≡ Refused 12
   pub bits_of_1 : bits_of 1 ≡ record { fcr = true; afrr = false; mfrr = false }
   pub bits_of_2 : bits_of 2 ≡ record { fcr = false; afrr = true; mfrr = false }

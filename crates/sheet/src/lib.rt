@@ -2,10 +2,12 @@
 #![tactic(auto)]
 
 ghost use Rattle.std.specs.Prelude.{◌≡◌};
+ghost use Rattle.refusals.specs.Refusals.{number_in};
 ghost use Rattle.power.specs.Units.{Divides};
 ghost use Rattle.sheet.specs.Sheet.{percent_out, range_out, fcr_reaction_out, afrr_reaction_out, sheet_number, InRange, per_kw, factor, default_sheet};
 
 use power::{Kw, PerKw};
+use refusals::Refusal;
 
 // The largest floor and excess, in percent.
 const MOST_FLOOR: u32 = 50;
@@ -24,7 +26,7 @@ const MOST_AFRR_REACTION: u32 = 60;
 pub const WINDOW: u32 = 300;
 
 // The figures of a book.
-#[derive(Clone, Copy)]
+#[derive(Clone, Copy, Debug, PartialEq, Eq)]
 pub struct Sheet {
     // FCR's and aFRR's floor: the tolerance that is always there, in percent of held.
     pub fcr_floor: u32,
@@ -39,62 +41,51 @@ pub struct Sheet {
 }
 
 impl Sheet {
+    #[tactic(auto, unfolding(crate::specs::Sheet::percent_out))]
     fn is_percent_out(self) -> bool
         ensures { result ≡ percent_out self }
     {
-        if MOST_FLOOR < self.fcr_floor {
-            return true;
-        }
-        if MOST_FLOOR < self.afrr_floor {
-            return true;
-        }
-        MOST_FLOOR < self.excess
+        MOST_FLOOR < self.fcr_floor || MOST_FLOOR < self.afrr_floor || MOST_FLOOR < self.excess
     }
 
+    #[tactic(auto, unfolding(crate::specs::Sheet::range_out))]
     fn is_range_out(self) -> bool
         ensures { result ≡ range_out self }
     {
         self.least_range.is_outside(Kw(1), Kw(MOST_LEAST))
     }
 
+    #[tactic(auto, unfolding(crate::specs::Sheet::fcr_reaction_out))]
     fn is_fcr_reaction_out(self) -> bool
         ensures { result ≡ fcr_reaction_out self }
     {
-        if self.fcr_reaction < LEAST_FCR_REACTION {
-            return true;
-        }
-        MOST_FCR_REACTION < self.fcr_reaction
+        self.fcr_reaction < LEAST_FCR_REACTION || MOST_FCR_REACTION < self.fcr_reaction
     }
 
+    #[tactic(auto, unfolding(crate::specs::Sheet::afrr_reaction_out))]
     fn is_afrr_reaction_out(self) -> bool
         ensures { result ≡ afrr_reaction_out self }
     {
-        if self.afrr_reaction < 1 {
-            return true;
-        }
-        MOST_AFRR_REACTION < self.afrr_reaction
+        self.afrr_reaction < 1 || MOST_AFRR_REACTION < self.afrr_reaction
     }
 
-    // 30 where a figure is outside its range, else 0.
-    pub fn number(self) -> u8
-        ensures { result ≡ sheet_number self }
+    // Turned down where a figure is outside its range.
+    #[tactic(auto, unfolding(crate::specs::Sheet::sheet_number))]
+    pub fn check(self) -> Result<(), Refusal>
+        ensures { number_in result ≡ sheet_number self }
     {
-        if self.is_percent_out() {
-            return 30;
+        if self.is_percent_out()
+            || self.is_range_out()
+            || self.is_fcr_reaction_out()
+            || self.is_afrr_reaction_out()
+        {
+            return Err(Refusal::SheetFigure);
         }
-        if self.is_range_out() {
-            return 30;
-        }
-        if self.is_fcr_reaction_out() {
-            return 30;
-        }
-        if self.is_afrr_reaction_out() {
-            return 30;
-        }
-        0
+        Ok(())
     }
 
     // The grains of a kW.
+    #[tactic(auto, using(crate::proofs::Sizes::divides), unfolding(crate::specs::Sheet::per_kw))]
     pub fn per_kw(self) -> PerKw
         requires { InRange self }
         ensures { (result.0 ≡ per_kw self) × Divides result.0 }
@@ -112,15 +103,18 @@ impl Sheet {
 }
 
 // The sheet that the programs use where none is given.
-pub fn default_sheet() -> Sheet
-    ensures { (result ≡ default_sheet) × InRange result }
-{
-    Sheet {
-        fcr_floor: 5,
-        afrr_floor: 5,
-        excess: 20,
-        least_range: Kw(1000),
-        fcr_reaction: 15,
-        afrr_reaction: 30,
+impl Default for Sheet {
+    ghost is_default = { λ sh. (sh ≡ default_sheet) × InRange sh };
+
+    #[tactic(auto, using(crate::proofs::Ranges::default_in_range), unfolding(crate::specs::Sheet::default_sheet))]
+    fn default() -> Sheet {
+        Sheet {
+            fcr_floor: 5,
+            afrr_floor: 5,
+            excess: 20,
+            least_range: Kw(1000),
+            fcr_reaction: 15,
+            afrr_reaction: 30,
+        }
     }
 }
