@@ -18,7 +18,7 @@ fn first_sheet() -> Sheet
 {
     Sheet {
         least_range: Kw(5000),
-        ..sheet::default_sheet()
+        ..Sheet::default()
     }
 }
 

@@ -6,4 +6,4 @@ use Rattle.check_values.proofs.first_sheet.Goals as goal
 
 pub returns : goal.returns
 unfolding default_sheet first_figures
-returns c = rw c.default_sheet.ensures.0 (refl, claims.first_in_range)
+returns c = rw c.default.ensures.0 (refl, claims.first_in_range)
