@@ -3,7 +3,7 @@
 use mathlib.Core.Path.{◌≡◌, sym, ap, ◌∙◌}
 use mathlib.Core.List.{List, [], ◌++◌, append_assoc}
 use Prim.Native.Nat.{ℕ, ◌+◌, ◌≤◌}
-use native.Mathlib.Nat.{add_assoc, add-zero}
+use native.Mathlib.Nat.{add_assoc, add-zero, zero-add}
 use native.Mathlib.Omega.{arith}
 use lib.ListN.{length, take, drop, length-append, length-take, length-drop, take-append-drop}
 use lib.Seq.{take_at, drop_at, drop-drop, length-take-le}
@@ -53,3 +53,8 @@ sized h f = record { bytes = f.bytes; next = f.next; most = omega (arith, f.next
 
 pub none : (b : List ℕ) (at : ℕ) → at ≤ length b → Put 0 b b at at []
 none b at h = record { bytes = sym (ap (λ (n : ℕ). take at b ++ drop n b) (add-zero at) ∙ take-append-drop at b); next = omega arith; most = omega arith; room = h }
+
+-- what was put at the front stands there
+pub front : {m r : ℕ} {b e text : List ℕ} → Put m b e 0 r text → take r e ≡ text
+front {b = b} {text = text} f =
+    (λ i. take (f.next i) (f.bytes i)) ∙ take_at text (drop (0 + length text) b) (0 + length text) (sym (zero-add (length text)))

@@ -4,7 +4,8 @@ use Rattle.std.specs.Io.KnownBytes.{Appends}
 use Rattle.std.proofs.KnownBytes.{Appends-nil}
 use lib.Seq.{take-append-le}
 use Rattle.pieces.specs.Pieces.{bytes_in, part_of}
-use Rattle.stdio.proofs.Rest.{front, whatever, goes_on, no_more}
+use Rattle.codec.proofs.Puts.{front}
+use Rattle.stdio.proofs.Rest.{whatever, goes_on, no_more}
 use Rattle.stdio.proofs.run.RunSession.turn.Goals as goal
 
 pub returns-then-wanted-eq0-clause-ended : goal.returns-then-wanted-eq0-clause-ended
