@@ -1,10 +1,10 @@
 // The writers' answers, and the buffer after each (02, W1).
-ghost use Rattle.std.specs.Prelude.{◌≡◌, ◌≤◌, ◌<◌, length};
-ghost use Rattle.block.specs.Writing.{written_says, header_written, block_written};
-ghost use Rattle.check_operations.specs.Numbers.{said_number, Wrote};
+ghost use Rattle.std.specs.Prelude.{◌≤◌, length};
+ghost use Rattle.std.specs.Fn.{FnOnceReturnsAtMut};
 
-use crate::say;
-use block::Written;
+use crate::Outcome;
+use block::{write_block, write_header};
+use refusals::Refusal;
 use std::io;
 
 // The longest buffer, and the most bytes of seconds.
@@ -13,154 +13,85 @@ const LONGEST: usize = block::SIZE + 1;
 const MOST_BYTES: usize = 260 * record::BOOK_SIZE;
 
 // From one byte to the next, in what a buffer holds before, and in the bytes of seconds.
-const BUFFER: usize = 7;
+const BUFFER: u8 = 7;
 
-const SECONDS: usize = 13;
+const SECONDS: u8 = 13;
 
 // Byte i is 3 and i times the step, below 251.
-fn fill(bytes: &mut [u8], step: usize)
-    requires { step ≤ 13 }
-{
-    let mut byte: usize = 3;
-    let mut i: usize = 0;
-    while i < bytes.len() {
-        bytes[i] = byte as u8;
-        byte = (byte + step) % 251;
-        i += 1;
+fn fill(bytes: &mut [u8], step: u8) {
+    let mut next = 3;
+    for byte in bytes {
+        *byte = next;
+        next = ((u16::from(next) + u16::from(step)) % 251) as u8;
     }
 }
 
-fn wide(byte: u8) -> u64
-    ensures { (result ≡ byte) × (result ≤ 255) }
-{
-    byte as u64
-}
-
-// The sum of each byte times its place, counted from 1: from the last byte on, each is added once at its place and at each before it.
+// The sum of each byte times its place, counted from 1.
 fn weight(bytes: &[u8]) -> u64
     requires { length bytes.now ≤ 513 }
 {
-    let mut last: u64 = 0;
-    let mut sum: u64 = 0;
-    let mut i = bytes.len();
-    while i > 0 {
-        i -= 1;
-        last += wide(bytes[i]);
-        sum += last;
+    let mut sum = 0;
+    for (i, byte) in bytes.iter().enumerate() {
+        sum += (i as u64 + 1) * u64::from(*byte);
     }
     sum
 }
 
-// The number of a writer's answer, 0 where the block was written.
-fn number_in(answer: Written) -> u8
-    ensures { result ≡ said_number (written_says answer) }
+// What a writer answers, and the weight of the buffer after it.
+fn written<F: FnOnce(&mut [u8]) -> Result<(), Refusal>>(
+    buf: &mut [u8],
+    write: F,
+) -> (Result<(), Refusal>, u64)
+    requires callable { F.IsAlwaysCallable write }
+    requires size { length buf.old ≤ 513 }
+    ensures { FnOnceReturnsAtMut F.FnOnce write buf.old result.0 buf.new }
 {
-    match answer {
-        Written::Done => 0,
-        Written::Refused(number) => number,
-    }
+    let answer = write(buf);
+    (answer, weight(buf))
 }
 
-fn header_number(buf: &mut [u8], owner: u8, seconds: u32) -> u8
-    ensures { Wrote result buf.new (header_written buf.old owner seconds) }
-{
-    number_in(block::write_header(buf, owner, seconds))
-}
-
-fn block_number(buf: &mut [u8], n: u32, seconds: &[u8]) -> u8
-    ensures { Wrote result buf.new (block_written buf.old n seconds.now) }
-{
-    number_in(block::write_block(buf, n, seconds))
-}
-
-// The answer, and the weight of the buffer after it.
-fn report(rt: &impl Print, what: &str, number: u8, buf: &[u8]) -> io::Result<()>
-    requires { length buf.now ≤ 513 }
-{
-    say(rt, what, number)?;
-    println!(rt; " {}", weight(buf))
-}
-
-fn header_into(
+fn ask<F: FnOnce(&mut [u8]) -> Result<(), Refusal>>(
     rt: &impl Print,
     what: &str,
     buf: &mut [u8],
-    owner: u8,
-    seconds: u32,
+    write: F,
 ) -> io::Result<()>
-    requires { length buf.old ≤ 513 }
+    requires callable { F.IsAlwaysCallable write }
+    requires size { length buf.old ≤ 513 }
 {
-    let number = header_number(buf, owner, seconds);
-    report(rt, what, number, buf)
+    let (answer, weight) = written(buf, write);
+    println!(rt; "{what} {} {weight}", Outcome(answer))
 }
 
-fn block_into(rt: &impl Print, what: &str, buf: &mut [u8], n: u32, seconds: &[u8]) -> io::Result<()>
-    requires { length buf.old ≤ 513 }
-{
-    let number = block_number(buf, n, seconds);
-    report(rt, what, number, buf)
-}
-
-// A header into the first `len` bytes of the buffer.
-fn header_part(
+// Into the first `len` bytes of a buffer.
+fn ask_of<F: FnOnce(&mut [u8]) -> Result<(), Refusal>>(
     rt: &impl Print,
     what: &str,
-    buf: &mut [u8],
     len: usize,
-    owner: u8,
-    seconds: u32,
+    write: F,
 ) -> io::Result<()>
-    requires { (len ≤ length buf.old) × (len ≤ 513) }
+    requires callable { F.IsAlwaysCallable write }
+    requires size { len ≤ 513 }
 {
-    header_into(rt, what, &mut buf[..len], owner, seconds)
+    let mut buf = [0u8; LONGEST];
+    fill(&mut buf, BUFFER);
+    ask(rt, what, &mut buf[..len], write)
 }
 
-// Block n into the first `len` bytes of the buffer.
-fn block_part(
-    rt: &impl Print,
-    what: &str,
-    buf: &mut [u8],
-    len: usize,
-    n: u32,
-    seconds: &[u8],
-) -> io::Result<()>
-    requires { (len ≤ length buf.old) × (len ≤ 513) }
-{
-    block_into(rt, what, &mut buf[..len], n, seconds)
-}
-
-// A header into a buffer of `len` bytes.
 fn header(rt: &impl Print, what: &str, len: usize, owner: u8, seconds: u32) -> io::Result<()>
     requires { len ≤ 513 }
 {
-    let mut buf = [0u8; LONGEST];
-    fill(&mut buf, BUFFER);
-    header_part(rt, what, &mut buf, len, owner, seconds)
+    ask_of(rt, what, len, |buf| write_header(buf, owner, seconds))
 }
 
-// Block n with the first `bytes` of the seconds into a buffer of `len` bytes.
-fn block_of(
-    rt: &impl Print,
-    what: &str,
-    len: usize,
-    n: u32,
-    seconds: &[u8],
-    bytes: usize,
-) -> io::Result<()>
-    requires { (len ≤ 513) × (bytes ≤ length seconds.now) }
-{
-    let mut buf = [0u8; LONGEST];
-    fill(&mut buf, BUFFER);
-    block_part(rt, what, &mut buf, len, n, &seconds[..bytes])
-}
-
-// Block n with so many bytes of seconds into a buffer of `len` bytes.
+// Block n of so many bytes of seconds.
 fn block(rt: &impl Print, what: &str, len: usize, n: u32, bytes: usize) -> io::Result<()>
     requires { (len ≤ 513) × (bytes ≤ 28080) }
 {
     let mut seconds = [0u8; MOST_BYTES];
     fill(&mut seconds, SECONDS);
-    block_of(rt, what, len, n, &seconds, bytes)
+    let seconds = &seconds[..bytes];
+    ask_of(rt, what, len, |buf| write_block(buf, n, seconds))
 }
 
 pub(crate) fn headers(rt: &impl Print) -> io::Result<()> {
@@ -205,9 +136,24 @@ pub(crate) fn one_buffer(rt: &impl Print) -> io::Result<()> {
     fill(&mut buf, BUFFER);
     let mut four = [0u8; block::PER_BLOCK * record::BOOK_SIZE];
     fill(&mut four, SECONDS);
-    block_into(rt, "write-block-first-of-two", &mut buf, 1, &four)?;
+    ask(
+        rt,
+        "write-block-first-of-two",
+        &mut buf,
+        |buf| write_block(buf, 1, &four),
+    )?;
     let mut one = [0u8; record::BOOK_SIZE];
     fill(&mut one, SECONDS);
-    block_into(rt, "write-block-over-it", &mut buf, 2, &one)?;
-    header_into(rt, "write-header-over-it", &mut buf, 5, 5)
+    ask(
+        rt,
+        "write-block-over-it",
+        &mut buf,
+        |buf| write_block(buf, 2, &one),
+    )?;
+    ask(
+        rt,
+        "write-header-over-it",
+        &mut buf,
+        |buf| write_header(buf, 5, 5),
+    )
 }

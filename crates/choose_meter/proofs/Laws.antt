@@ -8,7 +8,7 @@ use lib.ListN.{length, take, drop, length-append, length-drop}
 use lib.Seq.{take_at, drop_at, drop-drop, take-add, length-take-le, take_all, take-append-le, drop-append-le, take-append-add}
 use borrow.Rule.Slice.PartMut.{put_mid, post_of}
 use Rattle.codec.specs.Put.{Put}
-use Rattle.codec.proofs.Puts.{both, loosen, sized, none}
+use Rattle.codec.proofs.Puts.{front, both, loosen, sized, none}
 use Rattle.choose_meter.specs.Records.{record_size, said_in}
 use Rattle.choose_meter.specs.Printed.{line_text, lines_of, printed, whole_text, rest_of, told, line_width, piece_size, piece_room, Kept}
 use Rattle.choose_meter.specs.Claims.{joined}
@@ -103,11 +103,6 @@ module _ {k at : ℕ} {s rest b c : List ℕ} (f : SoFar k s rest b c at) where
   all h i =
       let count : k ≡ length s / record_size = omega (arith, left, f.within) in
       loosen (omega (arith, count)) (subst (λ (q : ℕ). Put (k * line_width) b c 0 at (lines_of q s)) count f.put)
-
--- what was put at the front stands there
-pub front : {m r : ℕ} {b e text : List ℕ} → Put m b e 0 r text → take r e ≡ text
-front {b = b} {text = text} f =
-    (λ i. take (f.next i) (f.bytes i)) ∙ take_at text (drop (0 + length text) b) (0 + length text) (sym (zero-add (length text)))
 
 -- n bytes of `new`, which stand in b from `from` on
 pub received : (from k n : ℕ) (b new : List ℕ) → from ≤ length b → n ≤ length new → take (from + n) (put_mid from k b new) ≡ take from b ++ take n new

@@ -23,7 +23,7 @@ fn put_answer(buf: &mut [u8], at: usize, answer: Result<Millihertz, Refusal>) ->
     let at = match answer {
         Ok(f) => {
             let at = codec::put_byte(buf, at, b'0');
-            line::put_millihertz(buf, at, f)
+            line::put_field(buf, at, f)
         }
         Err(refusal) => line::put_count(buf, at, u32::from(refusal.number())),
     };

@@ -17,9 +17,6 @@ use Rattle.printed.proofs.Claims.{wanted_none}
 use Rattle.printed.proofs.Told.{whole}
 use Rattle.stdio.specs.Rest.{rest_of}
 
-pub front : {m r : ℕ} {b e text : List ℕ} → Put m b e 0 r text → take r e ≡ text
-front {b = b} {text = text} f = (λ i. take (f.next i) (f.bytes i)) ∙ take_at text (drop (0 + length text) b) (0 + length text) (sym (zero-add (length text)))
-
 pub whatever : {P : List ℕ → Type 0} (o : Option (List ℕ)) → ((s : List ℕ) → P s) → IfSome o P
 whatever None h = tt
 whatever (Some s) h = h s

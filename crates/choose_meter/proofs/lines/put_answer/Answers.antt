@@ -9,6 +9,6 @@ pub returns : goal.returns
 unfolding line_text
 returns c =
     elim c.match-answer.branch [
-      | in-Ok w ↦ rw w.in-Ok.is (loosen (omega arith) (both w.put_byte-at.ensures (both w.put_millihertz-at.ensures (rw (w.buf-is, w.at-is) at c.put_byte.ensures))))
+      | in-Ok w ↦ rw w.in-Ok.is (loosen (omega arith) (both w.put_byte-at.ensures (both w.put_field-at.ensures (rw (w.buf-is, w.at-is) at c.put_byte.ensures))))
       | in-Err w ↦ rw w.in-Err.is (loosen (omega arith) (both (rw (w.from.ensures, w.number.ensures) at w.put_count-at.ensures) (rw (w.buf-is, w.at-is) at c.put_byte.ensures)))
     ]

@@ -2,7 +2,8 @@
 use Rattle.std.proofs.Common.{◌≡◌, ◌≤◌, ◌<◌, ◌+◌, ◌++◌, List, ℕ, take, length, arith, ap, ◌∙◌, subst, length-take-le, append_assoc}
 use Rattle.std.specs.Io.KnownBytes.{Appends}
 use Rattle.choose_meter.specs.Printed.{printed, whole_text, rest_of}
-use Rattle.choose_meter.proofs.Laws.{front, received, more}
+use Rattle.choose_meter.proofs.Laws.{received, more}
+use Rattle.codec.proofs.Puts.{front}
 use Rattle.choose_meter.proofs.held.HeldSession.turn.Goals as goal
 
 pub returns-clause-went : goal.returns-clause-went

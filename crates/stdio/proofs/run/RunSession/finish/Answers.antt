@@ -2,8 +2,9 @@
 use Rattle.std.proofs.Common.{◌∙◌, subst}
 use Rattle.std.proofs.lemmas.Result.{on_ok_weaker}
 use Rattle.std.specs.Io.KnownBytes.{Appends}
+use Rattle.codec.proofs.Puts.{front}
 use Rattle.pieces.specs.Pieces.{reads}
-use Rattle.stdio.proofs.Rest.{front, at_end}
+use Rattle.stdio.proofs.Rest.{at_end}
 use Rattle.stdio.proofs.run.RunSession.finish.Goals as goal
 
 pub returns : goal.returns

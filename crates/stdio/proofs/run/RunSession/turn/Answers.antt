@@ -3,8 +3,9 @@ use Rattle.std.proofs.Common.{◌<◌, ◌≤◌, length, take, ◌∙◌, sym, 
 use Rattle.std.specs.Io.KnownBytes.{Appends}
 use Rattle.std.proofs.KnownBytes.{Appends-nil}
 use lib.Seq.{take-append-le}
+use Rattle.codec.proofs.Puts.{front}
 use Rattle.pieces.specs.Pieces.{reads, bytes_in, part_of}
-use Rattle.stdio.proofs.Rest.{front, whatever, goes_on, no_more}
+use Rattle.stdio.proofs.Rest.{whatever, goes_on, no_more}
 use Rattle.stdio.proofs.run.RunSession.turn.Goals as goal
 
 pub returns-then-wanted-eq0-clause-ended : goal.returns-then-wanted-eq0-clause-ended
