@@ -1,17 +1,19 @@
 -- The seconds of a block in turn: what those so far added, and the rest. Assumes nothing.
-use mathlib.Core.Path.{◌≡◌, refl, ap, ◌∙◌}
+use mathlib.Core.Path.{◌≡◌, refl, sym, ap, ◌∙◌}
 use mathlib.Core.Bool.{Bool}
 use mathlib.Core.List.{List, [], ◌++◌, append_assoc, append-nil}
 use Prim.Native.Nat.{ℕ, suc, ◌+◌, ◌*◌, ◌-◌, ◌≤◌, ◌<◌}
 use native.Mathlib.Numerals.{add-one}
 use native.Mathlib.Omega.{arith}
-use lib.ListN.{length}
+use lib.ListN.{length, length-append}
 use Rattle.block.specs.Block.{second_of, seconds_from}
-use Rattle.block.specs.Places.{per_block}
+use Rattle.block.specs.Bytes.{part}
+use Rattle.block.specs.Places.{block_size, per_block, second_size, second_at}
 use Rattle.codec.specs.Put.{Put}
 use Rattle.codec.proofs.Puts.{both, kept, loosen, none}
 use Rattle.report.specs.declared.run.Kept.{Kept}
 use Rattle.report.specs.declared.run.Plan.{Plan}
+use Rattle.report.proofs.Seconds.{second_next, left_length}
 use Rattle.report.specs.Running.{Verdict, Accepted, Refused, KeptReady}
 use Rattle.cut.specs.Running.{CutRan, followed, cut_second_in, cut_seconds_in}
 use Rattle.cut.proofs.Parts.{after_text}
@@ -27,7 +29,7 @@ pub record Through (p : Plan) (at : ℕ) (cut : Held) (s : List ℕ) (count : �
   pub same : length e ≡ length b
   pub ready : KeptReady now.kept
 
-pub start : {p : Plan} {s b : List ℕ} {at count used : ℕ} {cut : Held} → KeptReady cut.kept → used ≤ length b → Through p at cut s count b b used cut used 0
+start : {p : Plan} {s b : List ℕ} {at count used : ℕ} {cut : Held} → KeptReady cut.kept → used ≤ length b → Through p at cut s count b b used cut used 0
 start {p} {s} {b} {at} {count} {used} {cut} ready room =
     let all : count - 0 ≡ count = omega arith in
     record { added = []; within = omega arith; put = loosen (omega arith) (none b used room); whole = rw all; same = refl; ready = ready }
@@ -49,7 +51,7 @@ module _ {p : Plan} {at : ℕ} {cut now new : Held} {s b c e : List ℕ} {count 
   put_more : Put ((i + 1) * cut_room) b e used last (f.added ++ one.ran.text)
   put_more = loosen (omega arith) (both f.put g.adds.text)
 
-  pub onward : v ≡ Accepted → Through p at cut s count b e used new last (i + 1)
+  onward : v ≡ Accepted → Through p at cut s count b e used new last (i + 1)
   onward a =
       record {
         added = f.added ++ one.ran.text;
@@ -60,7 +62,7 @@ module _ {p : Plan} {at : ℕ} {cut now new : Held} {s b c e : List ℕ} {count 
         ready = g.adds.ready;
       }
 
-  pub stopped : {n : ℕ} → count ≤ per_block → v ≡ Refused n → CutAdds cut_block_room b e used (cut_of new last v) (cut_seconds_in p at cut.kept cut.handed (seconds_from s 0 count))
+  stopped : {n : ℕ} → count ≤ per_block → v ≡ Refused n → CutAdds cut_block_room b e used (cut_of new last v) (cut_seconds_in p at cut.kept cut.handed (seconds_from s 0 count))
   stopped few a =
       let all : cut_seconds_in p at cut.kept cut.handed (seconds_from s 0 count) ≡ after_text f.added one =
       f.whole ∙ ap (after_text f.added) (next p at now.kept now.handed s count i h ∙ rw (← g.adds.verdict, a)) in
@@ -70,13 +72,44 @@ module _ {p : Plan} {at : ℕ} {cut now new : Held} {s b c e : List ℕ} {count 
         handed = g.handed;
       })
 
-pub finished : {p : Plan} {at : ℕ} {cut now : Held} {s b e : List ℕ} {count used end i : ℕ} → Through p at cut s count b e used now end i → count ≤ i → count ≤ per_block → CutAdds cut_block_room b e used (cut_of now end Accepted) (cut_seconds_in p at cut.kept cut.handed (seconds_from s 0 count))
+finished : {p : Plan} {at : ℕ} {cut now : Held} {s b e : List ℕ} {count used end i : ℕ} → Through p at cut s count b e used now end i → count ≤ i → count ≤ per_block → CutAdds cut_block_room b e used (cut_of now end Accepted) (cut_seconds_in p at cut.kept cut.handed (seconds_from s 0 count))
 unfolding cut_seconds_in seconds_from
 finished {count = count} {i = i} f h few =
-    let none_left : count - i ≡ 0 = omega arith in
-    let all = rw (none_left, append-nil) at f.whole in
+    let no_more : count - i ≡ 0 = omega arith in
+    let all = rw (no_more, append-nil) at f.whole in
     rw all
     (record {
       adds = record { kept = refl; verdict = refl; text = loosen (omega arith) f.put; ready = f.ready };
       handed = refl;
     })
+
+-- ---- likewise, by the bytes of the seconds that are left
+
+pub record Left (p : Plan) (at : ℕ) (cut : Held) (s : List ℕ) (count : ℕ) (b e : List ℕ) (used : ℕ) (now : Held) (end : ℕ) (rest : List ℕ) : Type 0 where
+  pub before : ℕ
+  pub through : Through p at cut s count b e used now end before
+  pub bytes : rest ≡ part s (second_at before) (second_at count)
+
+pub all_left : {p : Plan} {at : ℕ} {cut : Held} {s b rest : List ℕ} {count used : ℕ} → KeptReady cut.kept → used ≤ length b → rest ≡ part s (second_at 0) (second_at count) → Left p at cut s count b b used cut used rest
+all_left ready room is = record { before = 0; through = start ready room; bytes = is }
+
+module _ {p : Plan} {at : ℕ} {cut now new : Held} {s b c e rest : List ℕ} {count used end last : ℕ} {v : Verdict} (whole : length s ≡ block_size) (few : count ≤ per_block) (f : Left p at cut s count b c used now end rest) (x after : List ℕ) (is : rest ≡ x ++ after) (size : length x ≡ second_size) (d : CutAdds cut_room c e end (cut_of new last v) (cut_second_in p at now.kept now.handed x)) where
+  some : f.before < count
+  some =
+      let len : length rest ≡ length x + length after = ap length is ∙ length-append x after in
+      let all : length rest ≡ second_at count - second_at f.before = ap length f.bytes ∙ left_length s count f.before whole few in
+      omega (arith, size)
+
+  taken_next : (x ≡ second_of s f.before) × (after ≡ part s (second_at (f.before + 1)) (second_at count))
+  taken_next = second_next s count f.before whole few some (sym f.bytes ∙ is) size
+
+  pub one_less : v ≡ Accepted → Left p at cut s count b e used new last after
+  one_less a = record { before = f.before + 1; through = onward f.through some taken_next.0 d a; bytes = taken_next.1 }
+
+  pub one_refused : {n : ℕ} → v ≡ Refused n → CutAdds cut_block_room b e used (cut_of new last v) (cut_seconds_in p at cut.kept cut.handed (seconds_from s 0 count))
+  one_refused a = stopped f.through some taken_next.0 d few a
+
+pub none_left : {p : Plan} {at : ℕ} {cut now : Held} {s b e rest : List ℕ} {count used end : ℕ} → length s ≡ block_size → count ≤ per_block → Left p at cut s count b e used now end rest → length rest < second_size → CutAdds cut_block_room b e used (cut_of now end Accepted) (cut_seconds_in p at cut.kept cut.handed (seconds_from s 0 count))
+none_left {s = s} {count = count} whole few f h =
+    let all = ap length f.bytes ∙ left_length s count f.before whole few in
+    finished f.through (omega (arith, all, f.through.within)) few

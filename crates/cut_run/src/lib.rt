@@ -108,7 +108,8 @@ impl Cut {
         self.judge(plan, at, bytes, out, used)
     }
 
-    // The seconds of a block, until one is refused or the handover is.
+    // The seconds of a block, until one is refused or the handover is. A loop beside that of `report`: one for both would ask for a closure that holds
+    // the cut, the buffer and its end, which is no plainer.
     fn seconds(
         &mut self,
         plan: Plan,
@@ -121,8 +122,8 @@ impl Cut {
         requires { KeptReady self.old.kept × (length block.now ≡ block_size) × (count ≤ per_block) × (used.old + cut_block_room ≤ length out.old) }
         ensures { CutAdds cut_block_room out.old out.new used.old (cut_of self.new used.new (verdict_told result)) (cut_seconds_in plan at self.old.kept self.old.handed (seconds_from block.now 0 count)) }
     {
-        for i in 0..count {
-            self.second(plan, at, block::second(block, i), out, used)?;
+        for second in block::body(block, count).chunks_exact(record::BOOK_SIZE) {
+            self.second(plan, at, second, out, used)?;
         }
         Ok(())
     }

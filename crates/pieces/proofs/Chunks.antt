@@ -4,15 +4,15 @@ use mathlib.Core.Bool.{true, false}
 use mathlib.Core.List.{List, [], ◌∷◌, ◌++◌, append_assoc, append-nil}
 use Prim.Native.Nat.{ℕ, ◌+◌, ◌*◌, ◌≤◌, ◌<◌, ◌%◌}
 use native.Mathlib.Omega.{arith}
-use lib.ListN.{length, take, drop, length-append, length-take, length-drop}
-use lib.Seq.{take_at, take_all, take-add, length-take-le}
+use lib.ListN.{length, take, length-append}
+use lib.Seq.{take_at, take_all, length-take-le}
 use Rattle.block.specs.Places.{block_size}
 use Rattle.codec.specs.Put.{Put}
 use Rattle.codec.proofs.Puts.{kept, both, sized, loosen, none}
 use Rattle.report.specs.Text.{block_room}
 use Rattle.standing.specs.Standing.{Standing, Advance, Went, beyond_by, is_due, standing_in, StandingReady, Advances}
 use Rattle.standing.proofs.Steps.{none_left, beyond_is, beyond_text}
-use Rattle.pieces.specs.Pieces.{Reading, Taken, onward, bytes_in, piece_size, piece_room, part_of, ReadingReady, Takes, Fitting, Chunked}
+use Rattle.pieces.specs.Pieces.{Reading, Taken, onward, bytes_in, piece_size, piece_room, part_of, ReadingReady, Fitting, Chunked}
 use Rattle.pieces.proofs.Bytes.{cut, beyond, filling, filled_up, whole_block}
 
 -- ---- the bytes of one block

@@ -18,7 +18,7 @@ pub const PIECE_ROOM: usize = (PIECE_BLOCKS + 2) * 3 * line::ROW_ROOM * block::P
 
 const PIECE_BLOCKS: usize = 32;
 
-// Where a book stands as its bytes come: `filled` bytes of the next block are in `part`.
+// Where a book stands as its bytes come: `filled` bytes of the next block are in `part`, an array with its length beside it, since there is no heap.
 #[derive(Clone, Copy)]
 pub struct Reading {
     pub standing: Standing,

@@ -1,10 +1,11 @@
 -- The seconds of a block in turn: one second's answer, and what the seconds so far added. Assumes nothing.
-use mathlib.Core.Path.{◌≡◌, refl, ap, ◌∙◌}
+use mathlib.Core.Path.{◌≡◌, refl, sym, ap, ◌∙◌}
 use mathlib.Core.List.{List, [], ◌++◌, append_assoc, append-nil}
 use Prim.Native.Nat.{ℕ, suc, ◌+◌, ◌*◌, ◌-◌, ◌≤◌, ◌<◌}
 use native.Mathlib.Numerals.{add-one}
 use native.Mathlib.Omega.{arith}
-use lib.ListN.{length}
+use lib.ListN.{length, take, drop, length-append, length-drop}
+use lib.Seq.{take_at, drop_at, length-take-le}
 use Rattle.row.specs.declared.Row.{Row}
 use Rattle.refusals.specs.Refusals.{number_of}
 use Rattle.book.specs.declared.Book.{Book}
@@ -14,7 +15,9 @@ use Rattle.book.specs.Answers.{BookStep, Rows, refusal_in, refusal_told}
 use Rattle.book.specs.State.{Stepped}
 use Rattle.book.specs.State as book
 use Rattle.block.specs.Block.{second_of, seconds_from}
-use Rattle.block.specs.Places.{per_block}
+use Rattle.block.specs.Bytes.{part}
+use Rattle.block.specs.Places.{block_size, per_block, second_size, second_at}
+use Rattle.block.proofs.Parts.{part_split, part_length}
 use Rattle.codec.specs.Put.{Put}
 use Rattle.codec.proofs.Puts.{both, kept, loosen, none}
 use Rattle.record.specs.Record.{most_seconds}
@@ -65,6 +68,24 @@ pub refusal_is : (p : Plan) (k : Kept) (b : Book) (e : BookRefusal) → answered
 refusal_is p k b (Form e) = refl
 refusal_is p k b (Of who e) = refl
 
+-- ---- the seconds that are left
+
+-- the next of them, where i are before it
+pub second_next : (s : List ℕ) (count i : ℕ) {x after : List ℕ} → length s ≡ block_size → count ≤ per_block → i < count → part s (second_at i) (second_at count) ≡ x ++ after → length x ≡ second_size → (x ≡ second_of s i) × (after ≡ part s (second_at (i + 1)) (second_at count))
+second_next s count i {x} {after} whole few h is size =
+    let rest = length-drop (second_at i) s in
+    let len : length (second_of s i) ≡ second_size = length-take-le second_size (drop (second_at i) s) (omega arith) in
+    let step : second_at (i + 1) - second_at i ≡ second_size = omega arith in
+    let split : second_of s i ++ part s (second_at (i + 1)) (second_at count) ≡ x ++ after =
+    ap (λ (n : ℕ). take n (drop (second_at i) s) ++ part s (second_at (i + 1)) (second_at count)) (sym step)
+    ∙ sym (part_split s (second_at i) (second_at (i + 1)) (second_at count) (omega arith) (omega arith))
+    ∙ is in
+    (sym (take_at x after second_size size) ∙ ap (take second_size) (sym split) ∙ take_at (second_of s i) _ second_size len, sym (drop_at x after second_size size) ∙ ap (drop second_size) (sym split) ∙ drop_at (second_of s i) _ second_size len)
+
+-- how many bytes they have
+pub left_length : (s : List ℕ) (count i : ℕ) → length s ≡ block_size → count ≤ per_block → length (part s (second_at i) (second_at count)) ≡ second_at count - second_at i
+left_length s count i whole few = part_length s (second_at i) (second_at count) (omega arith)
+
 -- ---- the seconds so far, and the rest
 
 -- seconds 0 to i - 1 of a block's `count` were accepted: they added `added` up to byte `used`, and left `now`; all of them give that and what the rest gives
@@ -76,7 +97,7 @@ pub record Through (p : Plan) (k : Kept) (s : List ℕ) (count : ℕ) (b e : Lis
   pub same : length e ≡ length b
   pub ready : KeptReady now
 
-pub start : {p : Plan} {k : Kept} {s b : List ℕ} {count used : ℕ} → KeptReady k → used ≤ length b → Through p k s count b b used k used 0
+start : {p : Plan} {k : Kept} {s b : List ℕ} {count used : ℕ} → KeptReady k → used ≤ length b → Through p k s count b b used k used 0
 start {p} {k} {s} {b} {count} {used} h room =
     let all : count - 0 ≡ count = omega arith in
     record { added = []; within = omega arith; put = loosen (omega arith) (none b used room); whole = rw all; same = refl; ready = h }
@@ -95,7 +116,7 @@ module _ {p : Plan} {k now new : Kept} {s b c e : List ℕ} {count used end last
   put_more : Put ((i + 1) * second_room) b e used last (f.added ++ (second_in p now (second_of s i)).text)
   put_more = loosen (omega arith) (both f.put g.text)
 
-  pub onward : v ≡ Accepted → Through p k s count b e used new last (i + 1)
+  onward : v ≡ Accepted → Through p k s count b e used new last (i + 1)
   onward a =
       record {
         added = f.added ++ (second_in p now (second_of s i)).text;
@@ -106,15 +127,46 @@ module _ {p : Plan} {k now new : Kept} {s b c e : List ℕ} {count used end last
         ready = g.ready;
       }
 
-  pub stopped : {n : ℕ} → count ≤ per_block → v ≡ Refused n → Adds block_room b e used (run_of new last v) (seconds_in p k (seconds_from s 0 count))
+  stopped : {n : ℕ} → count ≤ per_block → v ≡ Refused n → Adds block_room b e used (run_of new last v) (seconds_in p k (seconds_from s 0 count))
   stopped few a =
       let all : seconds_in p k (seconds_from s 0 count) ≡ after f.added (second_in p now (second_of s i)) =
       f.whole ∙ ap (after f.added) (next p now s count i h ∙ rw (← g.verdict, a)) in
       rw all (record { kept = g.kept; verdict = g.verdict; text = loosen (omega arith) put_more; ready = g.ready })
 
-pub finished : {p : Plan} {k now : Kept} {s b e : List ℕ} {count used end i : ℕ} → Through p k s count b e used now end i → count ≤ i → count ≤ per_block → Adds block_room b e used (run_of now end Accepted) (seconds_in p k (seconds_from s 0 count))
+finished : {p : Plan} {k now : Kept} {s b e : List ℕ} {count used end i : ℕ} → Through p k s count b e used now end i → count ≤ i → count ≤ per_block → Adds block_room b e used (run_of now end Accepted) (seconds_in p k (seconds_from s 0 count))
 unfolding seconds_in seconds_from
 finished {p} {k} {s} {count = count} {i = i} f h few =
-    let none_left : count - i ≡ 0 = omega arith in
-    let all = rw (none_left, append-nil) at f.whole in
+    let no_more : count - i ≡ 0 = omega arith in
+    let all = rw (no_more, append-nil) at f.whole in
     rw all (record { kept = refl; verdict = refl; text = loosen (omega arith) f.put; ready = f.ready })
+
+-- ---- likewise, by the bytes of the seconds that are left
+
+pub record Left (p : Plan) (k : Kept) (s : List ℕ) (count : ℕ) (b e : List ℕ) (used : ℕ) (now : Kept) (end : ℕ) (rest : List ℕ) : Type 0 where
+  pub before : ℕ
+  pub through : Through p k s count b e used now end before
+  pub bytes : rest ≡ part s (second_at before) (second_at count)
+
+pub all_left : {p : Plan} {k : Kept} {s b rest : List ℕ} {count used : ℕ} → KeptReady k → used ≤ length b → rest ≡ part s (second_at 0) (second_at count) → Left p k s count b b used k used rest
+all_left ready room is = record { before = 0; through = start ready room; bytes = is }
+
+module _ {p : Plan} {k now new : Kept} {s b c e rest : List ℕ} {count used end last : ℕ} {v : Verdict} (whole : length s ≡ block_size) (few : count ≤ per_block) (f : Left p k s count b c used now end rest) (x after : List ℕ) (is : rest ≡ x ++ after) (size : length x ≡ second_size) (d : Adds second_room c e end (run_of new last v) (second_in p now x)) where
+  some : f.before < count
+  some =
+      let len : length rest ≡ length x + length after = ap length is ∙ length-append x after in
+      let all : length rest ≡ second_at count - second_at f.before = ap length f.bytes ∙ left_length s count f.before whole few in
+      omega (arith, size)
+
+  taken_next : (x ≡ second_of s f.before) × (after ≡ part s (second_at (f.before + 1)) (second_at count))
+  taken_next = second_next s count f.before whole few some (sym f.bytes ∙ is) size
+
+  pub one_less : v ≡ Accepted → Left p k s count b e used new last after
+  one_less a = record { before = f.before + 1; through = onward f.through some taken_next.0 d a; bytes = taken_next.1 }
+
+  pub one_refused : {n : ℕ} → v ≡ Refused n → Adds block_room b e used (run_of new last v) (seconds_in p k (seconds_from s 0 count))
+  one_refused a = stopped f.through some taken_next.0 d few a
+
+pub none_left : {p : Plan} {k now : Kept} {s b e rest : List ℕ} {count used end : ℕ} → length s ≡ block_size → count ≤ per_block → Left p k s count b e used now end rest → length rest < second_size → Adds block_room b e used (run_of now end Accepted) (seconds_in p k (seconds_from s 0 count))
+none_left {s = s} {count = count} whole few f h =
+    let all = ap length f.bytes ∙ left_length s count f.before whole few in
+    finished f.through (omega (arith, all, f.through.within)) few

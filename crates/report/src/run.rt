@@ -43,7 +43,8 @@ impl Kept {
     }
 }
 
-// One book second: its lines go where the text in the buffer ends, at `used`; or its refusal.
+// One book second: its lines go where the text in the lent buffer ends, at `used`; or its refusal. There is no heap, so the end stands beside the
+// buffer and the text is no String.
 pub fn run_second(
     kept: &mut Kept,
     plan: Plan,
@@ -76,8 +77,8 @@ fn run_seconds(
     requires { KeptReady kept.old × (length block.now ≡ block_size) × (count ≤ per_block) × (used.old + block_room ≤ length out.old) }
     ensures { Adds block_room out.old out.new used.old (run_of kept.new used.new (verdict_told result)) (seconds_in plan kept.old (seconds_from block.now 0 count)) }
 {
-    for i in 0..count {
-        run_second(kept, plan, block::second(block, i), out, used)?;
+    for second in block::body(block, count).chunks_exact(record::BOOK_SIZE) {
+        run_second(kept, plan, second, out, used)?;
     }
     Ok(())
 }

@@ -15,12 +15,10 @@ use Rattle.refusals.proofs.Laws.{not_zero}
 use Rattle.block.specs.declared.Header.{Header}
 use Rattle.block.specs.Places.{block_size}
 use Rattle.block.specs.Header.{header_number, header_of, header_says}
-use Rattle.block.specs.Said.{refused, answered}
 use Rattle.block.specs.Book.{last_block, past_last}
 use Rattle.block.proofs.Taken.{header_fields, header_zero}
 use Rattle.codec.proofs.Puts.{loosen, none}
-use Rattle.report.specs.declared.run.Kept.{Kept}
-use Rattle.report.specs.Running.{Verdict, Accepted, Refused, verdict_told, Run, Ran, Adds, block_in}
+use Rattle.report.specs.Running.{Verdict, Accepted, Refused, verdict_told, block_in}
 use Rattle.report.specs.Text.{block_room}
 use Rattle.standing.specs.Standing.{Standing, Went, kept_by, with_verdict, after_header, header_by, later_by, beyond_by, due_by, is_due, standing_in, bytes_due, StandingReady, Advances}
 
