@@ -1,41 +1,53 @@
--- What the program's operations ask and answer: the header, the book before its first second, and where it stands after a block.
-use Rattle.std.specs.Prelude.{◌≡◌, ℕ, zero, suc, ◌≤◌, false, List}
+-- What the program's operations answer: the header, the book before its first second, and where it stands after a block.
+use Rattle.std.specs.Prelude.{◌≡◌, ℕ, ◌≤◌, false, List, Result, Ok, Err}
+use Rattle.refusals.specs.Refusals.{number_of, Answer, answer_by}
+use Rattle.refusals.specs.Refusals as answer
 use Rattle.sheet.specs.Sheet.{default_sheet}
 use Rattle.record.specs.Record.{most_seconds}
 use Rattle.book.specs.State.{fresh}
 use Rattle.tally.specs.Tally as tally
 use Rattle.block.specs.Header.{header_number}
-use Rattle.report.specs.declared.Form.TheVariants.{Figures}
 use Rattle.report.specs.declared.run.Plan.{Plan}
-use Rattle.report.specs.declared.run.Verdict.{Verdict}
-use Rattle.report.specs.declared.run.Verdict.TheVariants.{Accepted, Refused}
-use Rattle.report.specs.Running.{kept_in, KeptReady}
-use Rattle.cut.specs.Running.{cut_block_in, plan_of}
+use Rattle.report.specs.Running as verdict
+use Rattle.report.specs.Running.{Verdict, keep, KeptReady}
+use Rattle.cut.specs.Running.{CutRan, cut_block_in, plan_of}
 use Rattle.cut_run.specs.declared.Cut.{Cut}
-use Rattle.check_cut.specs.declared.Opening.{Opening}
+use Rattle.check_cut.specs.declared.Stop.{Stop}
+use Rattle.check_cut.specs.declared.Stop.TheVariants.{Refused, Unsent}
 
--- what the header gives; a refused one has no blocks
-abbrev pub opening_by : ℕ → List ℕ → Opening
-opening_by zero s = record { plan = plan_of s; verdict = Accepted }
-opening_by (suc n) s = record { plan = record { form = Figures; owner = 0; seconds = 0 }; verdict = Refused (suc n) }
+-- ---- the header
 
-pub record Opens (s : List ℕ) (r : Opening) : Type 0 where
-  pub is : r ≡ opening_by (header_number s) s
-  pub few : r.plan.seconds ≤ most_seconds
+-- a book has no more seconds
+abbrev pub FewSeconds : Answer Plan → Type 0
+FewSeconds (answer.Given p) = p.seconds ≤ most_seconds
+FewSeconds (answer.Refused n) = Unit
 
--- before the first second
-abbrev pub start_by : Verdict → Cut
-start_by v = record { run = record { book = fresh default_sheet; tally = tally.zero; used = 0; verdict = v }; handed = false }
+pub record Opens (s : List ℕ) (r : Answer Plan) : Type 0 where
+  pub is : r ≡ answer_by (header_number s) (plan_of s)
+  pub few : FewSeconds r
 
--- between two blocks no text waits
-pub record Between (r : Cut) : Type 0 where
-  pub ready : KeptReady (kept_in r.run)
-  pub sent : r.run.used ≡ 0
+-- ---- before the first second
 
--- after block n of some bytes
-pub record AfterBlock (p : Plan) (at n : ℕ) (before r : Cut) : Type 0 where
+pub record IsStart (r : Cut) : Type 0 where
+  pub kept : r.kept ≡ keep (fresh default_sheet) tally.zero
+  pub handed : r.handed ≡ false
+  pub ready : KeptReady r.kept
+
+-- ---- after a block
+
+-- where its text was sent, the result says the verdict
+abbrev pub Says : Result (Unit {0}) Stop → Verdict → Type 0
+Says (Ok x) v = v ≡ verdict.Accepted
+Says (Err (Refused e)) v = v ≡ verdict.Refused (number_of e)
+Says (Err Unsent) v = Unit
+
+abbrev pub ran_in : Plan → ℕ → ℕ → Cut → List ℕ → CutRan
+ran_in p at n c s = cut_block_in p at n c.kept c.handed s
+
+-- block n of some bytes
+pub record AfterBlock (p : Plan) (at n : ℕ) (before after : Cut) (r : Result (Unit {0}) Stop) : Type 0 where
   pub bytes : List ℕ
-  pub kept : kept_in r.run ≡ (cut_block_in p at n (kept_in before.run) before.handed bytes).ran.kept
-  pub verdict : r.run.verdict ≡ (cut_block_in p at n (kept_in before.run) before.handed bytes).ran.verdict
-  pub handed : r.handed ≡ (cut_block_in p at n (kept_in before.run) before.handed bytes).handed
-  pub between : Between r
+  pub kept : after.kept ≡ (ran_in p at n before bytes).ran.kept
+  pub verdict : Says r (ran_in p at n before bytes).ran.verdict
+  pub handed : after.handed ≡ (ran_in p at n before bytes).handed
+  pub ready : KeptReady after.kept

@@ -8,9 +8,9 @@ use Rattle.block.specs.Places.{block_size}
 use Rattle.block.specs.Block.{block_number, count_of, seconds_from}
 use Rattle.block.specs.Book.{Held, held_by, later_blocks}
 use Rattle.report.specs.declared.run.Plan.{Plan}
-use Rattle.report.specs.declared.run.Verdict.{Verdict}
-use Rattle.report.specs.declared.run.Verdict.TheVariants as verdict
-use Rattle.report.specs.Running.{Kept, after}
+use Rattle.report.specs.declared.run.Kept.{Kept}
+use Rattle.report.specs.Running as verdict
+use Rattle.report.specs.Running.{Verdict, after}
 use Rattle.standing.specs.Standing.{last_by}
 use Rattle.cut.specs.Running.{CutRan, followed, cut_second_in, cut_seconds_in, block_by, cut_block_in, verdict_of, goes_on, blocks_told}
 

@@ -19,13 +19,13 @@ use Rattle.book.proofs.Handing.{handed}
 use Rattle.line.specs.Line.{sum_text}
 use Rattle.report.specs.declared.Form.TheVariants.{Figures}
 use Rattle.report.specs.declared.run.Plan.{Plan}
-use Rattle.report.specs.declared.run.Verdict.{Verdict}
-use Rattle.report.specs.declared.run.Verdict.TheVariants as verdict
-use Rattle.report.specs.Running.{Kept, keep, Ran, second_in, refused_at}
+use Rattle.report.specs.declared.run.Kept.{Kept}
+use Rattle.report.specs.Running as verdict
+use Rattle.report.specs.Running.{Verdict, keep, Ran, second_in, refused_at}
 use Rattle.report.specs.Text.{lines_of}
 use Rattle.report.specs.Counts.{kept_of}
 use Rattle.report.proofs.Past.{tally_none}
-use Rattle.report.proofs.Kept.{counted, taken, refused}
+use Rattle.report.proofs.KeptAfter.{counted, taken, refused}
 use Rattle.printed.specs.Printed.{Judged, judged_by, judged, last_text, book_seconds}
 use Rattle.book.specs.Cut.{bytes_back}
 use Rattle.cut.specs.Cut.{book_text, next_by, cut_by}

@@ -7,10 +7,8 @@ use native.Mathlib.Omega.{arith}
 use lib.ListN.{length, length-append}
 use borrow.Author.Tests.{eq-eqb, ne_eqb}
 use Rattle.block.specs.Places.{block_size}
-use Rattle.report.specs.declared.run.Verdict.{Verdict}
-use Rattle.report.specs.declared.run.Verdict.TheVariants.{Accepted, Refused}
-use Rattle.standing.specs.declared.Standing.{Standing}
-use Rattle.standing.specs.Standing.{Went, unmoved, with_verdict, beyond_by, is_due, standing_in}
+use Rattle.report.specs.Running.{Verdict, Accepted, Refused}
+use Rattle.standing.specs.Standing.{Standing, Went, unmoved, with_verdict, beyond_by, is_due, standing_in}
 use Rattle.standing.proofs.Steps.{none_left, refused_not_due, beyond_is}
 use Rattle.pieces.specs.Pieces.{byte_in, onward, bytes_in}
 

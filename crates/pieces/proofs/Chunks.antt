@@ -1,8 +1,8 @@
 -- Bytes of one block: they are gathered, or make it whole, or no block is due for them; and a piece chunk by chunk. Assumes nothing.
 use mathlib.Core.Path.{◌≡◌, refl, sym, ap, ◌∙◌}
 use mathlib.Core.Bool.{true, false}
-use mathlib.Core.List.{List, [], ◌∷◌, ◌++◌, append_assoc}
-use Prim.Native.Nat.{ℕ, ◌+◌, ◌*◌, ◌-◌, ◌≤◌, ◌<◌}
+use mathlib.Core.List.{List, [], ◌∷◌, ◌++◌, append_assoc, append-nil}
+use Prim.Native.Nat.{ℕ, ◌+◌, ◌*◌, ◌≤◌, ◌<◌, ◌%◌}
 use native.Mathlib.Omega.{arith}
 use lib.ListN.{length, take, drop, length-append, length-take, length-drop}
 use lib.Seq.{take_at, take_all, take-add, length-take-le}
@@ -10,13 +10,9 @@ use Rattle.block.specs.Places.{block_size}
 use Rattle.codec.specs.Put.{Put}
 use Rattle.codec.proofs.Puts.{kept, both, sized, loosen, none}
 use Rattle.report.specs.Text.{block_room}
-use Rattle.standing.specs.declared.Standing.{Standing}
-use Rattle.standing.specs.declared.Advance.{Advance}
-use Rattle.standing.specs.Standing.{Went, beyond_by, is_due, standing_in, StandingReady, Advances}
+use Rattle.standing.specs.Standing.{Standing, Advance, Went, beyond_by, is_due, standing_in, StandingReady, Advances}
 use Rattle.standing.proofs.Steps.{none_left, beyond_is, beyond_text}
-use Rattle.pieces.specs.declared.reading.Reading.{Reading}
-use Rattle.pieces.specs.declared.reading.Taken.{Taken}
-use Rattle.pieces.specs.Pieces.{piece_blocks, BlocksRun, onward, bytes_in, piece_size, piece_room, part_of, ReadingReady, Takes, Fitting, Chunked}
+use Rattle.pieces.specs.Pieces.{Reading, Taken, onward, bytes_in, piece_size, piece_room, part_of, ReadingReady, Takes, Fitting, Chunked}
 use Rattle.pieces.proofs.Bytes.{cut, beyond, filling, filled_up, whole_block}
 
 -- ---- the bytes of one block
@@ -30,7 +26,7 @@ none_due st p [] some d = absurd (omega arith)
 none_due st p (b ∷ s) some d = beyond st p b s d
 
 -- none is due
-pub past_last_lem : (r : Reading) {s b : List ℕ} {used : ℕ} {st : Standing} → Fitting r s → used + block_room ≤ length b → is_due r.standing ≡ false → st ≡ (beyond_by r.standing.verdict r.standing s).standing → StandingReady st → Chunked r s b b used (record { reading = record { standing = st; part = r.part; filled = 0 }; used = used })
+pub past_last_lem : (r : Reading) {s b : List ℕ} {used : ℕ} {st : Standing} → Fitting r s → used + block_room ≤ length b → is_due r.standing ≡ false → st ≡ (beyond_by r.standing.verdict r.standing s).standing → StandingReady st → Chunked block_room r s b b used (record { reading = record { standing = st; part = r.part; filled = 0 }; used = used })
 past_last_lem r {s} {b} {used} {st} fit room d is ready =
     record {
       takes =
@@ -54,7 +50,7 @@ module _ (r : Reading) {s e : List ℕ} {m n : ℕ} (fit : Fitting r s) (due : i
       let l : length (part_of r ++ s) ≡ n = length-append (part_of r) s ∙ ap (λ (k : ℕ). k + length s) begun ∙ sym put.next in
       ap (take n) (put.bytes ∙ sym (append_assoc (part_of r) s _)) ∙ take_at (part_of r ++ s) _ n l
 
-  pub still_short : {b : List ℕ} {used : ℕ} → used + block_room ≤ length b → n < block_size → Chunked r s b b used (record { reading = record { standing = r.standing; part = e; filled = n }; used = used })
+  pub still_short : {b : List ℕ} {used : ℕ} → used + block_room ≤ length b → n < block_size → Chunked block_room r s b b used (record { reading = record { standing = r.standing; part = e; filled = n }; used = used })
   still_short {b} {used} room h =
       let l = begun in
       let next = put.next in
@@ -70,7 +66,7 @@ module _ (r : Reading) {s e : List ℕ} {m n : ℕ} (fit : Fitting r s) (due : i
         paced = omega arith;
       }
 
-  pub now_whole : {b o : List ℕ} {used : ℕ} {a : Advance} → block_size ≤ n → Advances block_room b o used a (standing_in r.standing e) → Chunked r s b o used (record { reading = record { standing = a.standing; part = e; filled = 0 }; used = a.used })
+  pub now_whole : {b o : List ℕ} {used : ℕ} {a : Advance} → block_size ≤ n → Advances block_room b o used a (standing_in r.standing e) → Chunked block_room r s b o used (record { reading = record { standing = a.standing; part = e; filled = 0 }; used = a.used })
   now_whole {b} {o} {used} {a} h f =
       let l = begun in
       let next = put.next in
@@ -90,114 +86,87 @@ module _ (r : Reading) {s e : List ℕ} {m n : ℕ} (fit : Fitting r s) (due : i
         paced = omega (arith, f.text.most);
       }
 
--- ---- a piece chunk by chunk
-
--- the first `at` bytes of a piece are taken
-pub record Through (r : Reading) (s b e : List ℕ) (t : Taken) (at : ℕ) : Type 0 where
-  pub within : at ≤ length s
-  pub takes : Takes piece_room b e 0 t (bytes_in r.standing (part_of r) (take at s))
-  pub paced : t.used * block_size + t.reading.filled * block_room ≤ (r.filled + at) * block_room
-  pub same : length e ≡ length b
-
-pub start : {r : Reading} {s b : List ℕ} → ReadingReady r → Through r s b b (record { reading = r; used = 0 }) 0
-unfolding bytes_in
-start {r} {s} {b} ready =
+-- a whole block is, and lies in the piece
+pub whole_lies : (r : Reading) {x b o : List ℕ} {used : ℕ} {a : Advance} → ReadingReady r → r.filled ≡ 0 → length x ≡ block_size → Advances block_room b o used a (standing_in r.standing x) → Chunked block_room r x b o used (record { reading = record { standing = a.standing; part = r.part; filled = r.filled }; used = a.used })
+whole_lies r {x} {b} {o} {used} {a} ready empty size f =
+    let begun : part_of r ≡ [] = ap (λ (k : ℕ). take k r.part) empty in
     record {
-      within = omega arith;
-      takes = record { standing = refl; part = refl; text = loosen (omega arith) (none b 0 (omega arith)); ready = ready };
-      paced = omega arith;
-      same = refl;
+      takes =
+          rw (begun, whole_block r.standing x size)
+          (record {
+            standing = f.standing;
+            part = begun ∙ sym (none_left r.standing x);
+            text = f.text;
+            ready = record { standing = f.ready; size = ready.size; short = ready.short };
+          });
+      paced = omega (arith, f.text.most, size);
     }
 
-module _ {r : Reading} {s b c : List ℕ} {t : Taken} {at : ℕ} (ready : ReadingReady r) (few : length s ≤ piece_size) (f : Through r s b c t at) where
-  pub has_room : piece_room ≤ length b → t.used + block_room ≤ length c
-  has_room h = omega (arith, f.paced, f.within, f.same, ready.short)
+-- ---- a piece chunk by chunk
 
-  pub more : {e x : List ℕ} {u : Taken} {end : ℕ} → at < end → end ≤ length s → x ≡ take (end - at) (drop at s) → Chunked t.reading x c e t.used u → Through r s b e u end
-  more {e} {x} {u} {end} h k is d =
-      let w = bytes_in r.standing (part_of r) (take at s) in
-      let sum : end ≡ at + (end - at) = omega arith in
-      let longer : take end s ≡ take at s ++ x = ap (λ (n : ℕ). take n s) sum ∙ take-add at (end - at) s ∙ ap (λ (l : List ℕ). take at s ++ l) (sym is) in
-      let all : bytes_in r.standing (part_of r) (take end s) ≡ onward w.text (bytes_in t.reading.standing (part_of t.reading) x) =
-      ap (bytes_in r.standing (part_of r)) longer ∙ cut r.standing (part_of r) (take at s) x ∙ rw (← f.takes.standing, ← f.takes.part) in
-      let size : length x ≡ end - at = ap length is ∙ simp (length-take, length-drop) (omega arith) in
-      let pace : u.used * block_size + u.reading.filled * block_room ≤ (r.filled + end) * block_room = omega (arith, d.paced, f.paced) in
-      let text = both f.takes.text d.takes.text in
+-- of the bytes s all but `rest` are taken: they added `added`, and all of them give that and what the rest gives
+pub record Through (r : Reading) (s b e : List ℕ) (used : ℕ) (t : Taken) (rest : List ℕ) : Type 0 where
+  pub added : List ℕ
+  pub put : Put piece_room b e used t.used added
+  pub whole : bytes_in r.standing (part_of r) s ≡ onward added (bytes_in t.reading.standing (part_of t.reading) rest)
+  pub paced : t.used * block_size + (t.reading.filled + length rest) * block_room ≤ used * block_size + (r.filled + length s) * block_room
+  pub same : length e ≡ length b
+  pub ready : ReadingReady t.reading
+
+pub start : {r : Reading} {s b : List ℕ} {used : ℕ} → ReadingReady r → used ≤ length b → Through r s b b used (record { reading = r; used = used }) s
+start {r} {s} {b} {used} ready h =
+    record { added = []; put = loosen (omega arith) (none b used h); whole = refl; paced = omega arith; same = refl; ready = ready }
+
+module _ {r : Reading} {s b c rest : List ℕ} {used : ℕ} {t : Taken} (ready : ReadingReady r) (few : length s ≤ piece_size) (f : Through r s b c used t rest) where
+  pub has_room : used + piece_room ≤ length b → t.used + block_room ≤ length c
+  has_room h = omega (arith, f.paced, f.same, ready.short)
+
+  pub more : {m : ℕ} {e x after : List ℕ} {u : Taken} → rest ≡ x ++ after → Chunked m t.reading x c e t.used u → Through r s b e used u after
+  more {m} {e} {x} {after} {u} is d =
+      let w = bytes_in t.reading.standing (part_of t.reading) x in
+      let len : length rest ≡ length x + length after = ap length is ∙ length-append x after in
+      let all : bytes_in r.standing (part_of r) s ≡ onward f.added (onward w.text (bytes_in u.reading.standing (part_of u.reading) after)) =
+      f.whole
+      ∙ ap (λ (l : List ℕ). onward f.added (bytes_in t.reading.standing (part_of t.reading) l)) is
+      ∙ ap (onward f.added) (cut t.reading.standing (part_of t.reading) x after ∙ rw (← d.takes.standing, ← d.takes.part)) in
+      let pace : u.used * block_size + (u.reading.filled + length after) * block_room ≤ used * block_size + (r.filled + length s) * block_room = omega (arith, d.paced, f.paced) in
+      let text = both f.put d.takes.text in
       record {
-        within = k;
-        takes =
-            rw all
-            (record {
-              standing = d.takes.standing;
-              part = d.takes.part;
-              text = sized (omega (arith, text.next, pace, ready.short)) text;
-              ready = d.takes.ready;
-            });
+        added = f.added ++ w.text;
+        put = sized (omega (arith, text.next, pace, ready.short)) text;
+        whole = all ∙ rw append_assoc;
         paced = pace;
         same = kept d.takes.text ∙ f.same;
+        ready = d.takes.ready;
       }
 
-pub finished : {r : Reading} {s b e : List ℕ} {t : Taken} {at : ℕ} → Through r s b e t at → length s ≤ at → Takes piece_room b e 0 t (bytes_in r.standing (part_of r) s)
-finished {s = s} {at = at} f h = rw (take_all at s h) at f.takes
+nothing : (l : List ℕ) → length l ≡ 0 → l ≡ []
+nothing [] e = refl
+nothing (b ∷ l) e = absurd (omega (arith, e))
+
+pub finished : {r : Reading} {s b e rest : List ℕ} {used : ℕ} {t : Taken} → Through r s b e used t rest → length rest ≡ 0 → Chunked piece_room r s b e used t
+unfolding bytes_in
+finished {r} {s} {rest = rest} {t = t} f left =
+    let all : bytes_in r.standing (part_of r) s ≡ record { text = f.added; standing = t.reading.standing; part = part_of t.reading } =
+    f.whole ∙ rw (nothing rest left) (rw append-nil) in
+    record {
+      takes = rw all (record { standing = refl; part = refl; text = f.put; ready = f.ready });
+      paced = omega (arith, f.paced);
+    }
 
 -- ---- whole blocks
 
--- the first k blocks of s are run
-pub record Run (st : Standing) (s b e : List ℕ) (r : Advance) (k : ℕ) : Type 0 where
-  pub blocks : BlocksRun st (take (k * block_size) s) k b e r
-  pub same : length e ≡ length b
+-- likewise, where no block is begun and whole blocks are left
+pub record Blocks (r : Reading) (s b e : List ℕ) (used : ℕ) (t : Taken) (rest : List ℕ) : Type 0 where
+  pub through : Through r s b e used t rest
+  pub empty : t.reading.filled ≡ 0
+  pub even : length rest % block_size ≡ 0
 
-pub begin : {st : Standing} {s b : List ℕ} → StandingReady st → Run st s b b (record { standing = st; used = 0 }) 0
-unfolding bytes_in
-begin {st} {s} {b} ready =
+pub one_block : {r : Reading} {s b c e rest after : List ℕ} (x : List ℕ) {used : ℕ} {t : Taken} {a : Advance} → ReadingReady r → length s ≤ piece_size → Blocks r s b c used t rest → rest ≡ x ++ after → length x ≡ block_size → Advances block_room c e t.used a (standing_in t.reading.standing x) → Blocks r s b e used (record { reading = record { standing = a.standing; part = t.reading.part; filled = t.reading.filled }; used = a.used }) after
+one_block {rest = rest} {after} x {t = t} ready few f is size d =
+    let len : length rest ≡ length x + length after = ap length is ∙ length-append x after in
     record {
-      blocks = record { advances = record { standing = refl; text = loosen (omega arith) (none b 0 (omega arith)); ready = ready }; none_begun = refl; paced = omega arith };
-      same = refl;
-    }
-
-module _ {st : Standing} {s b c : List ℕ} {r : Advance} {k count : ℕ} (size : length s ≡ count * block_size) (few : count ≤ piece_blocks) (less : k < count) (f : Run st s b c r k) where
-  pub block_room_lem : piece_room ≤ length b → r.used + block_room ≤ length c
-  block_room_lem h = omega (arith, f.blocks.paced, f.same)
-
-  pub one_block : {e x : List ℕ} {u : Advance} → x ≡ take block_size (drop (k * block_size) s) → Advances block_room c e r.used u (standing_in r.standing x) → Run st s b e u (k + 1)
-  one_block {e} {x} {u} is d =
-      let from = k * block_size in
-      let w = bytes_in st [] (take from s) in
-      let sum : (k + 1) * block_size ≡ from + block_size = omega arith in
-      let longer : take ((k + 1) * block_size) s ≡ take from s ++ x = ap (λ (n : ℕ). take n s) sum ∙ take-add from block_size s ∙ ap (λ (l : List ℕ). take from s ++ l) (sym is) in
-      let whole : length x ≡ block_size = ap length is ∙ simp (length-take, length-drop) (omega arith) in
-      let all : bytes_in st [] (take ((k + 1) * block_size) s) ≡ onward w.text (standing_in r.standing x) =
-      ap (bytes_in st []) longer ∙ cut st [] (take from s) x ∙ rw (f.blocks.none_begun, ← f.blocks.advances.standing) (rw (whole_block r.standing x whole)) in
-      let text = both f.blocks.advances.text d.text in
-      record {
-        blocks =
-            record {
-              advances = rw all (record { standing = d.standing; text = sized (omega (arith, text.next, d.text.most, f.blocks.paced)) text; ready = d.ready });
-              none_begun = ap (λ (v : Went). v.part) all ∙ none_left r.standing x;
-              paced = omega (arith, d.text.most, f.blocks.paced);
-            };
-        same = kept d.text ∙ f.same;
-      }
-
-pub all_blocks : {st : Standing} {s b e : List ℕ} {r : Advance} {k count : ℕ} → length s ≡ count * block_size → count ≤ k → Run st s b e r k → k ≤ count → BlocksRun st s count b e r
-all_blocks {s = s} {k = k} {count} size done f within =
-    let last : k ≡ count = omega arith in
-    rw (take_all (count * block_size) s (omega arith)) at (rw last at f.blocks)
-
--- and the bytes after them
-pub after_blocks : {r : Reading} {s b c : List ℕ} {a : Advance} {count n : ℕ} → ReadingReady r → r.filled ≡ 0 → n ≡ count * block_size → n ≤ length s → BlocksRun r.standing (take n s) count b c a → Through r s b c (record { reading = record { standing = a.standing; part = r.part; filled = 0 }; used = a.used }) n
-after_blocks {r} {s} {b} {c} {a} {count} {n} ready empty is within f =
-    let begun : part_of r ≡ [] = ap (λ (k : ℕ). take k r.part) empty in
-    record {
-      within = within;
-      takes =
-          rw begun
-          (record {
-            standing = f.advances.standing;
-            part = sym f.none_begun;
-            text = f.advances.text;
-            ready = record { standing = f.advances.ready; size = ready.size; short = omega arith };
-          });
-      paced = omega (arith, f.paced);
-      same = kept f.advances.text;
+      through = more ready few f.through is (whole_lies t.reading f.through.ready f.empty size d);
+      empty = f.empty;
+      even = omega (arith, f.even, len, size);
     }

@@ -6,14 +6,10 @@ use Rattle.block.specs.Places.{block_size}
 use Rattle.codec.specs.Put.{Put}
 use Rattle.line.specs.Widths.{row_room}
 use Rattle.report.specs.declared.Form.{Form}
-use Rattle.report.specs.declared.run.Verdict.{Verdict}
-use Rattle.report.specs.declared.run.Verdict.TheVariants.{Accepted, Refused}
+use Rattle.report.specs.Running.{Verdict, Accepted, Refused}
 use Rattle.report.specs.Text.{counts_of, second_room, block_room}
-use Rattle.standing.specs.declared.Standing.{Standing}
-use Rattle.standing.specs.declared.Advance.{Advance}
-use Rattle.standing.specs.Standing.{Went, unmoved, start, is_due, standing_in, last_line_in, bytes_due, StandingReady, Advances}
-use Rattle.pieces.specs.declared.reading.Reading.{Reading}
-use Rattle.pieces.specs.declared.reading.Taken.{Taken}
+use Rattle.standing.specs.Standing.{Standing, stood, Went, unmoved, start, is_due, standing_in, last_line_in, bytes_due, StandingReady}
+use Rattle.pieces.specs.declared.reading.Reading.{Reading as Held}
 
 -- ---- byte after byte
 
@@ -65,6 +61,21 @@ wanted_by Accepted true left = min left piece_size
 unfoldable pub wanted_in : Standing → ℕ → ℕ
 wanted_in st filled = wanted_by st.verdict (is_due st) (bytes_due st - filled)
 
+-- where a book stands as its bytes come: `filled` bytes of the next block are in `part`
+pub record Reading : Type 0 where
+  pub standing : Standing
+  pub part : List ℕ
+  pub filled : ℕ
+
+-- what the code's reading says
+abbrev pub reads : Held → Reading
+reads h = record { standing = stood h.standing; part = h.part; filled = h.filled }
+
+-- after a piece, with `used` bytes of text in the buffer
+pub record Taken : Type 0 where
+  pub reading : Reading
+  pub used : ℕ
+
 -- the bytes of the next block that a reading has; those of its array from `filled` on are no part of it
 abbrev pub part_of : Reading → List ℕ
 part_of r = take r.filled r.part
@@ -80,12 +91,6 @@ pub record Takes (m : ℕ) (b e : List ℕ) (used : ℕ) (r : Taken) (w : Went) 
   pub text : Put m b e used r.used w.text
   pub ready : ReadingReady r.reading
 
--- whole blocks s, so many: none is begun after them
-pub record BlocksRun (st : Standing) (s : List ℕ) (count : ℕ) (b e : List ℕ) (r : Advance) : Type 0 where
-  pub advances : Advances piece_room b e 0 r (bytes_in st [] s)
-  pub none_begun : (bytes_in st [] s).part ≡ []
-  pub paced : r.used ≤ count * block_room
-
 -- some bytes that fit the block next in turn
 pub record Fitting (r : Reading) (s : List ℕ) : Type 0 where
   pub ready : ReadingReady r
@@ -93,8 +98,8 @@ pub record Fitting (r : Reading) (s : List ℕ) : Type 0 where
   pub fits : r.filled + length s ≤ block_size
 
 -- a block's text is added only where a block is whole, so no more room is used than the bytes ask for
-pub record Chunked (r : Reading) (s b e : List ℕ) (used : ℕ) (t : Taken) : Type 0 where
-  pub takes : Takes block_room b e used t (bytes_in r.standing (part_of r) s)
+pub record Chunked (m : ℕ) (r : Reading) (s b e : List ℕ) (used : ℕ) (t : Taken) : Type 0 where
+  pub takes : Takes m b e used t (bytes_in r.standing (part_of r) s)
   pub paced : t.used * block_size + t.reading.filled * block_room ≤ used * block_size + (r.filled + length s) * block_room
 
 pub record IsStart (sh : Sheet) (f : Form) (r : Reading) : Type 0 where

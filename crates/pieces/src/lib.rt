@@ -5,4 +5,4 @@
 
 mod reading;
 
-pub use reading::{PIECE, PIECE_ROOM, Reading, Taken};
+pub use reading::{PIECE, PIECE_ROOM, Reading};

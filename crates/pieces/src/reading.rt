@@ -1,15 +1,15 @@
 // A book taken in pieces of any size: whole blocks are run where they lie, and the bytes of one that comes in parts are gathered in an array.
-ghost use Rattle.std.specs.Prelude.{◌+◌, ◌*◌, ◌≤◌, ◌<◌, min, ◌≡◌, true, length};
+ghost use Rattle.std.specs.Prelude.{◌+◌, ◌≤◌, ◌≡◌, ◌%◌, true, length};
 ghost use Rattle.codec.specs.Put.{Put};
 ghost use Rattle.sheet.specs.Sheet.{InRange};
 ghost use Rattle.block.specs.Places.{block_size};
 ghost use Rattle.report.specs.Text.{block_room};
-ghost use Rattle.standing.specs.Standing.{is_due, StandingReady};
-ghost use Rattle.pieces.specs.Pieces.{bytes_in, last_in, part_of, piece_blocks, piece_size, piece_room, end_room, BlocksRun, ReadingReady, Fitting, Chunked, Takes, IsStart, Wanted};
+ghost use Rattle.standing.specs.Standing.{is_due};
+ghost use Rattle.pieces.specs.Pieces.{bytes_in, last_in, reads, part_of, piece_size, piece_room, end_room, ReadingReady, Fitting, Chunked, Takes, IsStart, Wanted};
 
-use report::{Form, Verdict};
+use report::Form;
 use sheet::Sheet;
-use standing::{Advance, Standing};
+use standing::Standing;
 
 // The most bytes that are taken at once, and the room that their text asks for, three lines a second.
 pub const PIECE: usize = PIECE_BLOCKS * block::SIZE;
@@ -26,53 +26,11 @@ pub struct Reading {
     pub filled: usize,
 }
 
-// Where it stands after a piece, with `used` bytes of text in the buffer.
-#[derive(Clone, Copy)]
-pub struct Taken {
-    pub reading: Reading,
-    pub used: usize,
-}
-
-// Where the next bytes of the block that was begun end, of bytes of which `at` are taken.
-fn chunk_end(filled: usize, at: usize, len: usize) -> usize
-    requires { (filled < block_size) × (at < len) }
-    ensures { (at < result) × (result ≤ len) × (filled + result ≤ at + block_size) }
-{
-    let missing = block::SIZE - filled;
-    if missing < len - at {
-        at + missing
-    } else {
-        len
-    }
-}
-
-fn at_most_piece(n: usize) -> usize
-    ensures { (result ≡ min n piece_size) × (result ≤ piece_size) }
-{
-    if n < PIECE { n } else { PIECE }
-}
-
-// Whole blocks in turn, so many, run where they lie.
-fn run_blocks(standing: Standing, bytes: &[u8], count: usize, out: &mut [u8]) -> Advance
-    requires { StandingReady standing × (length bytes.now ≡ count * block_size) × (count ≤ piece_blocks) × (piece_room ≤ length out.old) }
-    ensures { BlocksRun standing bytes.now count out.old out.new result }
-{
-    let mut run = Advance { standing, used: 0 };
-    let mut k: usize = 0;
-    while k < count {
-        let from = k * block::SIZE;
-        let end = from + block::SIZE;
-        run = run.standing.block(run.used, &bytes[from..end], out);
-        k += 1;
-    }
-    run
-}
-
 impl Reading {
     // Before the first byte, under a sheet whose figures are in range.
     pub fn new(sheet: Sheet, form: Form) -> Reading
         requires { InRange sheet }
-        ensures { IsStart sheet form result }
+        ensures { IsStart sheet form (reads result) }
     {
         Reading {
             standing: Standing::new(sheet, form),
@@ -82,125 +40,94 @@ impl Reading {
     }
 
     // How many bytes are to be read next, at most: none after a refusal, one past the last block.
-    pub fn wanted(self) -> usize
-        requires { ReadingReady self }
-        ensures { Wanted self result }
+    pub fn wanted(&self) -> usize
+        requires { ReadingReady (reads self.now) }
+        ensures { Wanted (reads self.now) result }
     {
-        let standing = self.standing;
-        let verdict = standing.verdict;
-        if let Verdict::Refused(_) = verdict {
+        if self.standing.verdict.is_err() {
             return 0;
         }
-        if !standing.is_due() {
+        if !self.standing.is_due() {
             return 1;
         }
-        at_most_piece(standing.bytes_due() - self.filled)
+        (self.standing.bytes_due() - self.filled).min(PIECE)
     }
 
     // More bytes of the block that is due; where it is whole then, it is run.
-    fn fill(self, used: usize, bytes: &[u8], out: &mut [u8]) -> Taken
-        requires { Fitting self bytes.now × (is_due self.standing ≡ true) × (used + block_room ≤ length out.old) }
-        ensures { Chunked self bytes.now out.old out.new used result }
+    fn fill(&mut self, bytes: &[u8], out: &mut [u8], used: &mut usize)
+        requires { Fitting (reads self.old) bytes.now × (is_due (reads self.old).standing ≡ true) × (used.old + block_room ≤ length out.old) }
+        ensures { Chunked block_room (reads self.old) bytes.now out.old out.new used.old (record { reading = reads self.new; used = used.new }) }
     {
-        let standing = self.standing;
-        let mut part = self.part;
-        let filled = codec::put_bytes(&mut part, self.filled, bytes);
+        let filled = codec::put_bytes(&mut self.part, self.filled, bytes);
         if filled < block::SIZE {
-            return Taken {
-                reading: Reading {
-                    standing,
-                    part,
-                    filled,
-                },
-                used,
-            };
+            self.filled = filled;
+            return;
         }
-        let run = standing.block(used, &part, out);
-        let standing = run.standing;
-        Taken {
-            reading: Reading {
-                standing,
-                part,
-                filled: 0,
-            },
-            used: run.used,
-        }
+        self.standing.block(&self.part, out, used);
+        self.filled = 0;
     }
 
     // Bytes of the block next in turn, or ones that none is due for.
-    fn chunk(self, used: usize, bytes: &[u8], out: &mut [u8]) -> Taken
-        requires { Fitting self bytes.now × (used + block_room ≤ length out.old) }
-        ensures { Chunked self bytes.now out.old out.new used result }
+    fn chunk(&mut self, bytes: &[u8], out: &mut [u8], used: &mut usize)
+        requires { Fitting (reads self.old) bytes.now × (used.old + block_room ≤ length out.old) }
+        ensures { Chunked block_room (reads self.old) bytes.now out.old out.new used.old (record { reading = reads self.new; used = used.new }) }
     {
-        let standing = self.standing;
-        if standing.is_due() {
-            return self.fill(used, bytes, out);
+        if self.standing.is_due() {
+            self.fill(bytes, out, used);
+        } else {
+            self.standing.beyond(bytes);
+            self.filled = 0;
         }
-        let part = self.part;
-        Taken {
-            reading: Reading {
-                standing: standing.beyond(bytes),
-                part,
-                filled: 0,
-            },
-            used,
+    }
+
+    // Whole blocks, where none was begun before them.
+    fn take_blocks(&mut self, bytes: &[u8], out: &mut [u8], used: &mut usize)
+        requires { ReadingReady (reads self.old) × (self.old.filled ≡ 0) × (length bytes.now % block_size ≡ 0) × (length bytes.now ≤ piece_size) × (used.old + piece_room ≤ length out.old) }
+        ensures { Chunked piece_room (reads self.old) bytes.now out.old out.new used.old (record { reading = reads self.new; used = used.new }) × (self.new.filled ≡ 0) }
+    {
+        for block in bytes.chunks_exact(block::SIZE) {
+            self.standing.block(block, out, used);
         }
     }
 
     // Bytes where a block was begun before them.
-    fn take_parts(self, bytes: &[u8], out: &mut [u8]) -> Taken
-        requires { ReadingReady self × (length bytes.now ≤ piece_size) × (piece_room ≤ length out.old) }
-        ensures { Takes piece_room out.old out.new 0 result (bytes_in self.standing (part_of self) bytes.now) }
+    fn take_parts(&mut self, bytes: &[u8], out: &mut [u8], used: &mut usize)
+        requires { ReadingReady (reads self.old) × (length bytes.now ≤ piece_size) × (used.old + piece_room ≤ length out.old) }
+        ensures { Chunked piece_room (reads self.old) bytes.now out.old out.new used.old (record { reading = reads self.new; used = used.new }) }
     {
-        let mut taken = Taken {
-            reading: self,
-            used: 0,
-        };
-        let mut at: usize = 0;
-        while at < bytes.len() {
-            let end = chunk_end(taken.reading.filled, at, bytes.len());
-            taken = taken.reading.chunk(taken.used, &bytes[at..end], out);
-            at = end;
+        let mut rest = bytes;
+        while !rest.is_empty() {
+            let (next, after) = rest.split_at(rest.len().min(block::SIZE - self.filled));
+            self.chunk(next, out, used);
+            rest = after;
         }
-        taken
     }
 
-    // The next bytes of the book, of any number up to a piece, and their text from the buffer's first byte on.
-    pub fn take(self, bytes: &[u8], out: &mut [u8]) -> Taken
-        requires { ReadingReady self × (length bytes.now ≤ piece_size) × (piece_room ≤ length out.old) }
-        ensures { Takes piece_room out.old out.new 0 result (bytes_in self.standing (part_of self) bytes.now) }
+    // The next bytes of the book, of any number up to a piece; answers where their text ends, which begins at the buffer's first byte.
+    pub fn take(&mut self, bytes: &[u8], out: &mut [u8]) -> usize
+        requires { ReadingReady (reads self.old) × (length bytes.now ≤ piece_size) × (piece_room ≤ length out.old) }
+        ensures { Takes piece_room out.old out.new 0 (record { reading = reads self.new; used = result }) (bytes_in (reads self.old).standing (part_of (reads self.old)) bytes.now) }
     {
+        let mut used = 0;
         if self.filled != 0 {
-            return self.take_parts(bytes, out);
+            self.take_parts(bytes, out, &mut used);
+            return used;
         }
-        let count = bytes.len() / block::SIZE;
-        let whole = count * block::SIZE;
-        let part = self.part;
-        let run = run_blocks(self.standing, &bytes[..whole], count, out);
-        let standing = run.standing;
-        let reading = Reading {
-            standing,
-            part,
-            filled: 0,
-        };
-        if whole == bytes.len() {
-            return Taken {
-                reading,
-                used: run.used,
-            };
+        let (blocks, rest) = bytes.split_at(bytes.len() / block::SIZE * block::SIZE);
+        self.take_blocks(blocks, out, &mut used);
+        if !rest.is_empty() {
+            self.chunk(rest, out, &mut used);
         }
-        reading.chunk(run.used, &bytes[whole..], out)
+        used
     }
 
     // The last line, where the bytes end here, after the counts that stand before it.
-    pub fn last_line(self, out: &mut [u8]) -> usize
-        requires { ReadingReady self × (piece_room ≤ length out.old) }
-        ensures { Put end_room out.old out.new 0 result (last_in self.standing) }
+    pub fn last_line(&self, out: &mut [u8]) -> usize
+        requires { ReadingReady (reads self.now) × (piece_room ≤ length out.old) }
+        ensures { Put end_room out.old out.new 0 result (last_in (reads self.now).standing) }
     {
-        let standing = self.standing;
-        let plan = standing.plan;
-        let form = plan.form;
-        let at = report::add_counts(out, 0, form, standing.tally);
+        let standing = &self.standing;
+        let at = report::add_counts(out, 0, standing.plan.form, standing.kept.tally);
         report::add(out, at, standing.last_line())
     }
 }

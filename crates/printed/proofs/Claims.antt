@@ -16,11 +16,10 @@ use Rattle.book.proofs.Claims as book
 use Rattle.block.specs.Places.{block_size}
 use Rattle.block.specs.Header.{header_number, owner_of, seconds_of}
 use Rattle.report.specs.declared.Form.{Form}
-use Rattle.report.specs.declared.run.Verdict.{Verdict}
-use Rattle.report.specs.declared.run.Verdict.TheVariants as verdict
-use Rattle.standing.specs.declared.Standing.{Standing}
+use Rattle.report.specs.Running as verdict
+use Rattle.report.specs.Running.{Verdict}
 use Rattle.printed.specs.Printed.{judged_in, number_in, end_text, printed}
-use Rattle.standing.specs.Standing.{start, is_due, bytes_due}
+use Rattle.standing.specs.Standing.{Standing, start, is_due, bytes_due}
 use Rattle.pieces.specs.Pieces.{wanted_by, wanted_in, byte_by, byte_in, bytes_in, last_in}
 use Rattle.printed.specs.Claims.{told, joined, seconds_held, SumLine, Claims}
 use Rattle.standing.proofs.Steps.{none_left, refused_not_due, due_block}

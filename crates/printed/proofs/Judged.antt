@@ -13,11 +13,10 @@ use Rattle.book.specs.Run.{accepted}
 use Rattle.book.specs.State.{second_of}
 use Rattle.report.specs.declared.Form.{Form}
 use Rattle.report.specs.declared.run.Plan.{Plan}
-use Rattle.report.specs.declared.run.Verdict.{Verdict}
-use Rattle.report.specs.declared.run.Verdict.TheVariants as verdict
-use Rattle.report.specs.Running.{Ran, seconds_in}
+use Rattle.report.specs.Running as verdict
+use Rattle.report.specs.Running.{Verdict, Ran, seconds_in}
 use Rattle.report.specs.Counts.{kept_of}
-use Rattle.report.proofs.Kept.{grown_more, taken, refused}
+use Rattle.report.proofs.KeptAfter.{grown_more, taken, refused}
 use Rattle.report.specs.Text.{lines_of}
 use Rattle.printed.specs.Printed.{Judged, judged_by, judged, book_seconds}
 

@@ -20,15 +20,15 @@ use Rattle.block.specs.Header.{header_number, owner_of, seconds_of}
 use Rattle.block.specs.Block.{block_number, count_of, seconds_from}
 use Rattle.block.specs.Book.{Held, held_by, past_last, later_blocks, last_block}
 use Rattle.report.specs.declared.Form.{Form}
-use Rattle.report.specs.declared.run.Verdict.TheVariants as verdict
-use Rattle.report.specs.Running.{Kept, Ran, block_in, seconds_in}
+use Rattle.report.specs.declared.run.Kept.{Kept}
+use Rattle.report.specs.Running as verdict
+use Rattle.report.specs.Running.{Ran, block_in, seconds_in}
 use Rattle.report.specs.Counts.{tally_of, kept_of}
 use Rattle.book.proofs.Claims.{fresh_is, none_accepted}
 use Rattle.report.proofs.Past.{tally_none}
-use Rattle.report.proofs.Kept.{counted}
-use Rattle.standing.specs.declared.Standing.{Standing}
+use Rattle.report.proofs.KeptAfter.{counted}
 use Rattle.printed.specs.Printed.{Judged, judged, end_text, book_seconds, printed_by, printed}
-use Rattle.standing.specs.Standing.{start, kept_by, with_verdict, after_header, later_by, is_due, standing_in, end_of, last_line_in}
+use Rattle.standing.specs.Standing.{Standing, start, kept_by, with_verdict, after_header, later_by, is_due, standing_in, end_of, last_line_in}
 use Rattle.standing.proofs.Steps.{refused_not_due, header_is, later_is}
 use Rattle.pieces.specs.Pieces.{onward, bytes_in, last_in}
 use Rattle.pieces.proofs.Bytes.{stays, beyond, filling, block_more}

@@ -12,8 +12,7 @@ use Rattle.line.specs.Line.{sum_text}
 use Rattle.report.specs.declared.Form.{Form}
 use Rattle.report.specs.Text.{counts_of}
 use Rattle.report.specs.Counts.{tally_of}
-use Rattle.standing.specs.declared.Standing.{Standing}
-use Rattle.standing.specs.Standing.{start}
+use Rattle.standing.specs.Standing.{Standing, start}
 use Rattle.pieces.specs.Pieces.{bytes_in, last_in, wanted_in}
 use Rattle.printed.specs.Printed.{book_seconds, number_in, printed}
 

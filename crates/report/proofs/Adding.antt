@@ -1,5 +1,5 @@
 -- A line written into the rest of the buffer is text put where that rest starts. Assumes nothing.
-use mathlib.Core.Path.{◌≡◌, ap, ◌∙◌}
+use mathlib.Core.Path.{◌≡◌, sym, ap, ◌∙◌}
 use mathlib.Core.List.{List, ◌++◌, append-nil}
 use Prim.Native.Nat.{ℕ, ◌+◌, ◌-◌, ◌≤◌}
 use native.Mathlib.Omega.{arith}
@@ -7,8 +7,9 @@ use lib.ListN.{length, take, drop, length-drop}
 use lib.Seq.{take_all, drop-length, drop-drop}
 use borrow.Author.Tests.{le-ltb}
 use borrow.Rule.Slice.PartMut.{mid_of, put_mid, Post-is}
-use Rattle.line.specs.declared.Answer.{Answer}
-use Rattle.line.specs.declared.Answer.TheVariants.{Length}
+use Rattle.std.proofs.Common.{Result, Ok}
+use Rattle.refusals.specs.declared.Refusal.{Refusal}
+use Rattle.line.proofs.Lines.{taken}
 use Rattle.line.specs.Lined.{Lined, length_in}
 use Rattle.codec.specs.Put.{Put}
 use Rattle.line.specs.Widths.{row_room}
@@ -25,19 +26,30 @@ room_most (text.Short t letter x) = omega arith
 room_most (text.Counts letter c) = omega arith
 room_most (text.Shares t letter x) = omega arith
 
-pub put_in_rest : {least m at n : ℕ} {b e text : List ℕ} {r : Answer} → at + m ≤ length b → least ≤ m → n ≡ length_in r → Lined least (mid_of at (length b - at) b) e r text → Put m b (put_mid at (length b - at) b e) at (at + n) text
+-- the rest of the buffer from byte `at` on
+rest_is : (at m : ℕ) (b : List ℕ) → at + m ≤ length b → mid_of at (length b - at) b ≡ drop at b
+rest_is at m b fits = let len = length-drop at b in take_all (length b - at) (drop at b) (omega arith)
+
+-- it has room for the line
+pub written : (at : ℕ) (b : List ℕ) {least m : ℕ} {e text : List ℕ} {r : Result ℕ Refusal} → at + m ≤ length b → least ≤ m → Lined least (mid_of at (length b - at) b) e r text → r ≡ Ok (length text)
+written at b {least} {m} fits small f =
+    let len = length-drop at b in
+    let rest = rest_is at m b fits in
+    let size : length (mid_of at (length b - at) b) ≡ length (drop at b) = ap length rest in
+    taken (omega arith) f
+
+pub put_in_rest : {least m at n : ℕ} {b e text : List ℕ} {r : Result ℕ Refusal} → at + m ≤ length b → least ≤ m → r ≡ Ok n → Lined least (mid_of at (length b - at) b) e r text → Put m b (put_mid at (length b - at) b e) at (at + n) text
 put_in_rest {least} {m} {at} {n} {b} {e} {text} {r} fits small is f =
     let len = length-drop at b in
-    let mid : mid_of at (length b - at) b ≡ drop at b = take_all (length b - at) (drop at b) (omega arith) in
+    let mid = rest_is at m b fits in
+    let count : n ≡ length text = ap length_in (sym is ∙ written at b fits small f) in
     let long : least ≤ length (drop at b) = omega arith in
     let g : Lined least (drop at b) e r text = rw mid at f in
-    let answer : r ≡ Length (length text) = rw (le-ltb (length (drop at b)) least long) at g.answer in
-    let count : n ≡ length text = is ∙ ap length_in answer in
     let buffer : e ≡ text ++ drop (length text) (drop at b) = rw (le-ltb (length (drop at b)) least long) at g.buffer in
     let post = Post-is at (length b) b (omega arith) ∙ drop-length b in
     record {
       bytes = ap (λ (l : List ℕ). take at b ++ (e ++ l)) post ∙ ap (λ (l : List ℕ). take at b ++ l) (append-nil e ∙ buffer) ∙ ap (λ (l : List ℕ). take at b ++ (text ++ l)) (drop-drop (length text) at b);
       next = omega arith;
-      most = omega (arith, g.most, ap length_in answer);
-      room = omega (arith, g.within, ap length_in answer);
+      most = omega (arith, g.most, ap length_in is);
+      room = omega (arith, g.within, ap length_in is);
     }

@@ -20,11 +20,12 @@ use Rattle.book.specs.Run.{accepted}
 use Rattle.book.specs.State.{fresh}
 use Rattle.tally.specs.Tally.{zero}
 use Rattle.report.specs.declared.Form.{Form}
-use Rattle.report.specs.Running.{Kept, keep}
+use Rattle.report.specs.declared.run.Kept.{Kept}
+use Rattle.report.specs.Running.{keep}
 use Rattle.report.specs.Counts.{kept_of, kept_after}
 use Rattle.report.specs.Claims.{NoLine, NoLines, Claims}
 use Rattle.report.proofs.Past.{tally_none}
-use Rattle.report.proofs.Kept.{kept_list}
+use Rattle.report.proofs.KeptAfter.{kept_list}
 
 quiet : (sh : Sheet) (c : plant.Closed) (h : plant.History) (x : Record) (m w : ℤ) (t letter : ℕ) → RowHolds sh c h x m w → NoLine sh c h x m w t letter (row_at sh c h x m w)
 quiet sh c h x m w t letter f on =

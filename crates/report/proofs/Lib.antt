@@ -3,5 +3,5 @@ pub mod Adding
 pub mod Seconds
 pub mod Blocks
 pub mod Past
-pub mod Kept
+pub mod KeptAfter
 pub mod Claims

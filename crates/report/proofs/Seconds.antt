@@ -6,8 +6,11 @@ use native.Mathlib.Numerals.{add-one}
 use native.Mathlib.Omega.{arith}
 use lib.ListN.{length}
 use Rattle.row.specs.declared.Row.{Row}
-use Rattle.book.specs.declared.BookStep.{BookStep}
-use Rattle.book.specs.declared.BookAnswer.TheVariants.{Rows}
+use Rattle.refusals.specs.Refusals.{number_of}
+use Rattle.book.specs.declared.Book.{Book}
+use Rattle.book.specs.declared.BookRefusal.{BookRefusal}
+use Rattle.book.specs.declared.BookRefusal.TheVariants.{Form, Of}
+use Rattle.book.specs.Answers.{BookStep, Rows, refusal_in, refusal_told}
 use Rattle.book.specs.State.{Stepped}
 use Rattle.book.specs.State as book
 use Rattle.block.specs.Block.{second_of, seconds_from}
@@ -18,11 +21,10 @@ use Rattle.record.specs.Record.{most_seconds}
 use Rattle.tally.specs.declared.Tally.{Tally}
 use Rattle.tally.specs.Tally.{TallyWithin, TallyCounted}
 use Rattle.tally.proofs.Counts.{longer}
+use Rattle.report.specs.declared.run.Kept.{Kept}
 use Rattle.report.specs.declared.run.Plan.{Plan}
-use Rattle.report.specs.declared.run.Run.{Run}
-use Rattle.report.specs.declared.run.Verdict.TheVariants.{Accepted, Refused}
 use Rattle.report.specs.Text.{lines_of, second_room, block_room}
-use Rattle.report.specs.Running.{Kept, keep, refused_at, answered, second_in, after, followed, seconds_in, run_of, kept_in, KeptReady, Adds}
+use Rattle.report.specs.Running.{Verdict, Accepted, Refused, keep, refused_at, answered, second_in, after, followed, seconds_in, run_of, KeptReady, Adds}
 use Rattle.report.proofs.Counting.{Counts, counts}
 
 -- ---- one second
@@ -58,22 +60,26 @@ turned_down p {k} {s} {b} {r} {used = used} ready f is h =
       ready = record { book = f.ready; counts = longer _ _ (counted p k s f).least k.tally ready.counts };
     })
 
+-- a refusal of the book by its number
+pub refusal_is : (p : Plan) (k : Kept) (b : Book) (e : BookRefusal) → answered p k b (refusal_told e) ≡ refused_at (keep b k.tally) (number_of (refusal_in e))
+refusal_is p k b (Form e) = refl
+refusal_is p k b (Of who e) = refl
+
 -- ---- the seconds so far, and the rest
 
--- seconds 0 to i - 1 of a block's `count` were accepted: they added `added`, and all of them give that and what the rest gives
-pub record Through (p : Plan) (k : Kept) (s : List ℕ) (count : ℕ) (b e : List ℕ) (used : ℕ) (run : Run) (i : ℕ) : Type 0 where
+-- seconds 0 to i - 1 of a block's `count` were accepted: they added `added` up to byte `used`, and left `now`; all of them give that and what the rest gives
+pub record Through (p : Plan) (k : Kept) (s : List ℕ) (count : ℕ) (b e : List ℕ) (used : ℕ) (now : Kept) (end i : ℕ) : Type 0 where
   pub added : List ℕ
   pub within : i ≤ count
-  pub put : Put (i * second_room) b e used run.used added
-  pub whole : seconds_in p k (seconds_from s 0 count) ≡ after added (seconds_in p (kept_in run) (seconds_from s i (count - i)))
+  pub put : Put (i * second_room) b e used end added
+  pub whole : seconds_in p k (seconds_from s 0 count) ≡ after added (seconds_in p now (seconds_from s i (count - i)))
   pub same : length e ≡ length b
-  pub ready : KeptReady (kept_in run)
-  pub going : run.verdict ≡ Accepted
+  pub ready : KeptReady now
 
-pub start : {p : Plan} {k : Kept} {s b : List ℕ} {count used : ℕ} → KeptReady k → used ≤ length b → Through p k s count b b used (run_of k used Accepted) 0
+pub start : {p : Plan} {k : Kept} {s b : List ℕ} {count used : ℕ} → KeptReady k → used ≤ length b → Through p k s count b b used k used 0
 start {p} {k} {s} {b} {count} {used} h room =
     let all : count - 0 ≡ count = omega arith in
-    record { added = []; within = omega arith; put = loosen (omega arith) (none b used room); whole = rw all; same = refl; ready = h; going = refl }
+    record { added = []; within = omega arith; put = loosen (omega arith) (none b used room); whole = rw all; same = refl; ready = h }
 
 -- one second more
 next : (p : Plan) (k : Kept) (s : List ℕ) (count i : ℕ) → i < count → seconds_in p k (seconds_from s i (count - i)) ≡ followed (second_in p k (second_of s i)) (second_in p k (second_of s i)).verdict (seconds_in p (second_in p k (second_of s i)).kept (seconds_from s (i + 1) (count - (i + 1))))
@@ -82,34 +88,33 @@ next p k s count i h =
     let more : count - i ≡ suc (count - (i + 1)) = omega arith in
     rw (more, add-one)
 
-module _ {p : Plan} {k : Kept} {s b c e : List ℕ} {count used i : ℕ} {run r : Run} {t : List ℕ} (f : Through p k s count b c used run i) (h : i < count) (is : t ≡ second_of s i) (d : Adds second_room c e run.used r (second_in p (kept_in run) t)) where
-  g : Adds second_room c e run.used r (second_in p (kept_in run) (second_of s i))
+module _ {p : Plan} {k now new : Kept} {s b c e : List ℕ} {count used end last i : ℕ} {v : Verdict} {t : List ℕ} (f : Through p k s count b c used now end i) (h : i < count) (is : t ≡ second_of s i) (d : Adds second_room c e end (run_of new last v) (second_in p now t)) where
+  g : Adds second_room c e end (run_of new last v) (second_in p now (second_of s i))
   g = rw is at d
 
-  put_more : Put ((i + 1) * second_room) b e used r.used (f.added ++ (second_in p (kept_in run) (second_of s i)).text)
+  put_more : Put ((i + 1) * second_room) b e used last (f.added ++ (second_in p now (second_of s i)).text)
   put_more = loosen (omega arith) (both f.put g.text)
 
-  pub onward : r.verdict ≡ Accepted → Through p k s count b e used r (i + 1)
-  onward v =
+  pub onward : v ≡ Accepted → Through p k s count b e used new last (i + 1)
+  onward a =
       record {
-        added = f.added ++ (second_in p (kept_in run) (second_of s i)).text;
+        added = f.added ++ (second_in p now (second_of s i)).text;
         within = omega arith;
         put = put_more;
-        whole = f.whole ∙ ap (after f.added) (next p (kept_in run) s count i h) ∙ rw (← g.verdict, v, ← g.kept) (rw append_assoc);
+        whole = f.whole ∙ ap (after f.added) (next p now s count i h) ∙ rw (← g.verdict, a, ← g.kept) (rw append_assoc);
         same = kept g.text ∙ f.same;
         ready = g.ready;
-        going = v;
       }
 
-  pub stopped : {n : ℕ} → count ≤ per_block → r.verdict ≡ Refused n → Adds block_room b e used r (seconds_in p k (seconds_from s 0 count))
-  stopped few v =
-      let all : seconds_in p k (seconds_from s 0 count) ≡ after f.added (second_in p (kept_in run) (second_of s i)) =
-      f.whole ∙ ap (after f.added) (next p (kept_in run) s count i h ∙ rw (← g.verdict, v)) in
+  pub stopped : {n : ℕ} → count ≤ per_block → v ≡ Refused n → Adds block_room b e used (run_of new last v) (seconds_in p k (seconds_from s 0 count))
+  stopped few a =
+      let all : seconds_in p k (seconds_from s 0 count) ≡ after f.added (second_in p now (second_of s i)) =
+      f.whole ∙ ap (after f.added) (next p now s count i h ∙ rw (← g.verdict, a)) in
       rw all (record { kept = g.kept; verdict = g.verdict; text = loosen (omega arith) put_more; ready = g.ready })
 
-pub finished : {p : Plan} {k : Kept} {s b e : List ℕ} {count used i : ℕ} {run : Run} → Through p k s count b e used run i → count ≤ i → count ≤ per_block → Adds block_room b e used run (seconds_in p k (seconds_from s 0 count))
+pub finished : {p : Plan} {k now : Kept} {s b e : List ℕ} {count used end i : ℕ} → Through p k s count b e used now end i → count ≤ i → count ≤ per_block → Adds block_room b e used (run_of now end Accepted) (seconds_in p k (seconds_from s 0 count))
 unfolding seconds_in seconds_from
-finished {p} {k} {s} {count = count} {i = i} {run = run} f h few =
+finished {p} {k} {s} {count = count} {i = i} f h few =
     let none_left : count - i ≡ 0 = omega arith in
     let all = rw (none_left, append-nil) at f.whole in
-    rw all (record { kept = refl; verdict = f.going; text = loosen (omega arith) f.put; ready = f.ready })
+    rw all (record { kept = refl; verdict = refl; text = loosen (omega arith) f.put; ready = f.ready })

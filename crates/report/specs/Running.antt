@@ -1,26 +1,33 @@
 -- A block run second by second: the text that it adds, what is kept after it, and its verdict.
-use Rattle.std.specs.Prelude.{◌≡◌, ℕ, zero, suc, List, [], ◌∷◌, ◌++◌}
+use Rattle.std.specs.Prelude.{◌≡◌, ℕ, zero, suc, List, [], ◌∷◌, ◌++◌, Result, Ok, Err}
+use Rattle.refusals.specs.declared.Refusal.{Refusal}
+use Rattle.refusals.specs.Refusals.{number_of}
 use Rattle.book.specs.declared.Book.{Book}
-use Rattle.book.specs.declared.BookAnswer.{BookAnswer}
-use Rattle.book.specs.declared.BookAnswer.TheVariants as answer
+use Rattle.book.specs.Answers as answer
+use Rattle.book.specs.Answers.{BookAnswer}
 use Rattle.book.specs.State.{step_in, Ready}
 use Rattle.book.specs.State as book
 use Rattle.tally.specs.declared.Tally.{Tally}
 use Rattle.tally.specs.Tally.{tally_with, TallyWithin}
 use Rattle.block.specs.Block.{block_number, count_of, seconds_from}
 use Rattle.codec.specs.Put.{Put}
+use Rattle.report.specs.declared.run.Kept.{Kept}
 use Rattle.report.specs.declared.run.Plan.{Plan}
-use Rattle.report.specs.declared.run.Run.{Run}
-use Rattle.report.specs.declared.run.Verdict.{Verdict}
-use Rattle.report.specs.declared.run.Verdict.TheVariants.{Accepted, Refused}
 use Rattle.report.specs.Text.{lines_of}
 
--- ---- the seconds of a block
+-- ---- the verdict
 
--- what is kept of the accepted seconds: the book, and how often each kind stood outside its band
-pub record Kept : Type 0 where
-  pub book : Book
-  pub tally : Tally
+-- all accepted so far, or the number of the refusal that ends the text
+pub data Verdict : Type 0 where
+  Accepted : Verdict
+  Refused : ℕ → Verdict
+
+-- what a result says of a run
+abbrev pub verdict_told : {A : Type 0} → Result A Refusal → Verdict
+verdict_told (Ok x) = Accepted
+verdict_told (Err e) = Refused (number_of e)
+
+-- ---- the seconds of a block
 
 abbrev pub keep : Book → Tally → Kept
 keep k q = record { book = k; tally = q }
@@ -73,6 +80,13 @@ unfoldable pub block_in : Plan → ℕ → Kept → List ℕ → Ran
 block_in p n k s = block_by (block_number s p.seconds n) p k s
 
 -- ---- what the operations answer
+
+-- where a run stands: `used` bytes of the buffer wait to be written
+pub record Run : Type 0 where
+  pub book : Book
+  pub tally : Tally
+  pub used : ℕ
+  pub verdict : Verdict
 
 abbrev pub run_of : Kept → ℕ → Verdict → Run
 run_of k used v = record { book = k.book; tally = k.tally; used = used; verdict = v }

@@ -1,12 +1,14 @@
 -- What is printed of a book (01, "Blocks and text"): "prints a line a second, then a sum line".
 use Rattle.std.specs.Prelude.{ℕ, ◌*◌, List, [], ◌++◌}
 use Prim.Native.Char.{code}
+use Rattle.refusals.specs.Refusals.{number_of}
 use Rattle.row.specs.declared.Row.{Row}
 use Rattle.block.specs.Places.{per_block}
 use Rattle.line.specs.Line.{second_text, row_text, sum_text, refusal_text}
 use Rattle.line.specs.Short.{short_text, counts_text}
 use Rattle.line.specs.Shares.{shares_text}
 use Rattle.line.specs.Widths.{line_room, row_room}
+use Rattle.codec.specs.Put.{Put}
 use Rattle.tally.specs.declared.Tally.{Tally}
 use Rattle.report.specs.declared.Form.{Form}
 use Rattle.report.specs.declared.Form.TheVariants.{Line, Figures, Short, Shares}
@@ -18,7 +20,7 @@ abbrev pub text_of : TextLine → List ℕ
 text_of (text.Second t u a b) = second_text t u a b
 text_of (text.Plant t letter x) = row_text t letter x
 text_of (text.Sums s) = sum_text s
-text_of (text.Refusal n t) = refusal_text n t
+text_of (text.Refusal e t) = refusal_text (number_of e) t
 text_of (text.Short t letter x) = short_text t letter x
 text_of (text.Counts letter c) = counts_text letter c
 text_of (text.Shares t letter x) = shares_text t letter x
@@ -27,7 +29,7 @@ abbrev pub room_of : TextLine → ℕ
 room_of (text.Second t u a b) = line_room
 room_of (text.Plant t letter x) = row_room
 room_of (text.Sums s) = line_room
-room_of (text.Refusal n t) = line_room
+room_of (text.Refusal e t) = line_room
 room_of (text.Short t letter x) = row_room
 room_of (text.Counts letter c) = row_room
 room_of (text.Shares t letter x) = row_room
@@ -57,3 +59,15 @@ second_room = 3 * row_room
 
 abbrev pub block_room : ℕ
 block_room = per_block * second_room
+
+-- ---- three lines
+
+-- the lines of U, A and B, each as `Gives` has it from its letter and what is told of the plant, are put one after the other
+pub record PlantsPut {T : Type 0} (Gives : ℕ → T → TextLine → Type 0) (unit a b : T) (buf e : List ℕ) (at r : ℕ) : Type 0 where
+  pub u : TextLine
+  pub x : TextLine
+  pub y : TextLine
+  pub gives_u : Gives (code "U") unit u
+  pub gives_a : Gives (code "A") a x
+  pub gives_b : Gives (code "B") b y
+  pub put : Put second_room buf e at r (text_of u ++ (text_of x ++ text_of y))

@@ -6,7 +6,7 @@ mod lines;
 mod run;
 
 pub use lines::{TextLine, add, add_counts};
-pub use run::{Plan, Run, Verdict, run_block, run_second};
+pub use run::{Kept, Plan, run_block, run_second};
 
 // What a second is printed as: one line with the actual values; a line a plant with every figure of its row; a line for each kind outside its
 // band, and at the end how often each was; or a line a plant with what was shared and how each share was rounded.

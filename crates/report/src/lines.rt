@@ -3,10 +3,11 @@ ghost use Rattle.std.specs.Prelude.{◌≡◌, ◌+◌, ◌≤◌, length};
 ghost use Rattle.line.specs.Lined.{Lined};
 ghost use Rattle.codec.specs.Put.{Put};
 ghost use Rattle.line.specs.Widths.{row_room};
-ghost use Rattle.report.specs.Text.{text_of, room_of, lines_of, tally_text, counts_of, second_room};
+ghost use Rattle.report.specs.Text.{text_of, room_of, lines_of, tally_text, counts_of, second_room, PlantsPut};
 
 use crate::Form;
-use line::Answer;
+use book::BookRows;
+use refusals::Refusal;
 use row::{PlantCounts, Row, Sums};
 use tally::Tally;
 
@@ -26,7 +27,7 @@ pub enum TextLine {
     },
     Sums(Sums),
     Refusal {
-        number: u8,
+        refusal: Refusal,
         seconds: u32,
     },
     Short {
@@ -45,7 +46,7 @@ pub enum TextLine {
     },
 }
 
-fn write(buf: &mut [u8], text: TextLine) -> Answer
+fn write(buf: &mut [u8], text: TextLine) -> Result<usize, Refusal>
     ensures { Lined (room_of text) buf.old buf.new result (text_of text) }
 {
     match text {
@@ -56,7 +57,9 @@ fn write(buf: &mut [u8], text: TextLine) -> Answer
             row,
         } => line::plant_line(buf, second, letter, row),
         TextLine::Sums(sums) => line::sum_line(buf, sums),
-        TextLine::Refusal { number, seconds } => line::refusal_line(buf, number, seconds),
+        TextLine::Refusal { refusal, seconds } => {
+            line::refusal_line(buf, refusal.number(), seconds)
+        }
         TextLine::Short {
             second,
             letter,
@@ -76,95 +79,24 @@ pub fn add(out: &mut [u8], at: usize, text: TextLine) -> usize
     requires { at + row_room ≤ length out.old }
     ensures { Put row_room out.old out.new at result (text_of text) }
 {
-    at + line::length_in(write(&mut out[at..], text))
+    at + write(&mut out[at..], text).unwrap()
 }
 
-fn add_plant(out: &mut [u8], at: usize, second: u32, letter: u8, row: Row) -> usize
-    requires { at + row_room ≤ length out.old }
-    ensures { Put row_room out.old out.new at result (text_of (TextLine.Plant second letter row)) }
+// The lines of U, A and B, one after the other, each as `line` gives it from its letter and what is told of the plant.
+fn add_plants<T, F: Fn(u8, T) -> TextLine>(
+    out: &mut [u8],
+    at: usize,
+    plants: (T, T, T),
+    line: F,
+) -> usize
+    requires callable { F.IsAlwaysCallable line }
+    requires room { at + second_room ≤ length out.old }
+    ensures { PlantsPut (F.post line) plants.0 plants.1 plants.2 out.old out.new at result }
 {
-    add(
-        out,
-        at,
-        TextLine::Plant {
-            second,
-            letter,
-            row,
-        },
-    )
-}
-
-fn add_figures(out: &mut [u8], at: usize, second: u32, unit: Row, a: Row, b: Row) -> usize
-    requires { at + second_room ≤ length out.old }
-    ensures { Put second_room out.old out.new at result (lines_of Form.Figures second unit a b) }
-{
-    let at = add_plant(out, at, second, b'U', unit);
-    let at = add_plant(out, at, second, b'A', a);
-    add_plant(out, at, second, b'B', b)
-}
-
-fn add_plant_short(out: &mut [u8], at: usize, second: u32, letter: u8, row: Row) -> usize
-    requires { at + row_room ≤ length out.old }
-    ensures { Put row_room out.old out.new at result (text_of (TextLine.Short second letter row)) }
-{
-    add(
-        out,
-        at,
-        TextLine::Short {
-            second,
-            letter,
-            row,
-        },
-    )
-}
-
-fn add_short(out: &mut [u8], at: usize, second: u32, unit: Row, a: Row, b: Row) -> usize
-    requires { at + second_room ≤ length out.old }
-    ensures { Put second_room out.old out.new at result (lines_of Form.Short second unit a b) }
-{
-    let at = add_plant_short(out, at, second, b'U', unit);
-    let at = add_plant_short(out, at, second, b'A', a);
-    add_plant_short(out, at, second, b'B', b)
-}
-
-fn add_plant_shares(out: &mut [u8], at: usize, second: u32, letter: u8, row: Row) -> usize
-    requires { at + row_room ≤ length out.old }
-    ensures { Put row_room out.old out.new at result (text_of (TextLine.Shares second letter row)) }
-{
-    add(
-        out,
-        at,
-        TextLine::Shares {
-            second,
-            letter,
-            row,
-        },
-    )
-}
-
-fn add_shares(out: &mut [u8], at: usize, second: u32, unit: Row, a: Row, b: Row) -> usize
-    requires { at + second_room ≤ length out.old }
-    ensures { Put second_room out.old out.new at result (lines_of Form.Shares second unit a b) }
-{
-    let at = add_plant_shares(out, at, second, b'U', unit);
-    let at = add_plant_shares(out, at, second, b'A', a);
-    add_plant_shares(out, at, second, b'B', b)
-}
-
-fn add_plant_counts(out: &mut [u8], at: usize, letter: u8, counts: PlantCounts) -> usize
-    requires { at + row_room ≤ length out.old }
-    ensures { Put row_room out.old out.new at result (text_of (TextLine.Counts letter counts)) }
-{
-    add(out, at, TextLine::Counts { letter, counts })
-}
-
-fn add_tally(out: &mut [u8], at: usize, tally: Tally) -> usize
-    requires { at + second_room ≤ length out.old }
-    ensures { Put second_room out.old out.new at result (tally_text tally) }
-{
-    let at = add_plant_counts(out, at, b'U', tally.unit);
-    let at = add_plant_counts(out, at, b'A', tally.a);
-    add_plant_counts(out, at, b'B', tally.b)
+    let (unit, a, b) = plants;
+    let at = add(out, at, line(b'U', unit));
+    let at = add(out, at, line(b'A', a));
+    add(out, at, line(b'B', b))
 }
 
 // Appends what stands before the last line: in the short form the counts, else nothing.
@@ -173,10 +105,13 @@ pub fn add_counts(out: &mut [u8], at: usize, form: Form, tally: Tally) -> usize
     ensures { Put second_room out.old out.new at result (counts_of form tally) }
 {
     match form {
-        Form::Line => at,
-        Form::Figures => at,
-        Form::Short => add_tally(out, at, tally),
-        Form::Shares => at,
+        Form::Short => {
+            let plants = (tally.unit, tally.a, tally.b);
+            add_plants(out, at, plants, |letter, counts| {
+                TextLine::Counts { letter, counts }
+            })
+        }
+        Form::Line | Form::Figures | Form::Shares => at,
     }
 }
 
@@ -186,17 +121,35 @@ pub(crate) fn add_second(
     at: usize,
     form: Form,
     second: u32,
-    unit: Row,
-    a: Row,
-    b: Row,
+    rows: BookRows,
 ) -> usize
     requires { at + second_room ≤ length out.old }
-    ensures { Put second_room out.old out.new at result (lines_of form second unit a b) }
+    ensures { Put second_room out.old out.new at result (lines_of form second rows.unit rows.a rows.b) }
 {
+    let BookRows { unit, a, b } = rows;
+    let plants = (unit, a, b);
     match form {
         Form::Line => add(out, at, TextLine::Second { second, unit, a, b }),
-        Form::Figures => add_figures(out, at, second, unit, a, b),
-        Form::Short => add_short(out, at, second, unit, a, b),
-        Form::Shares => add_shares(out, at, second, unit, a, b),
+        Form::Figures => add_plants(out, at, plants, |letter, row| {
+            TextLine::Plant {
+                second,
+                letter,
+                row,
+            }
+        }),
+        Form::Short => add_plants(out, at, plants, |letter, row| {
+            TextLine::Short {
+                second,
+                letter,
+                row,
+            }
+        }),
+        Form::Shares => add_plants(out, at, plants, |letter, row| {
+            TextLine::Shares {
+                second,
+                letter,
+                row,
+            }
+        }),
     }
 }

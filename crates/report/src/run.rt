@@ -1,14 +1,18 @@
-// A block run second by second: the text that it adds, the book after it, and its refusal.
+// A block run second by second: the text that it adds, what is kept after it, and its refusal.
 ghost use Rattle.std.specs.Prelude.{◌+◌, ◌≤◌, ◌≡◌, length};
+ghost use Rattle.sheet.specs.Sheet.{InRange};
+ghost use Rattle.book.specs.State.{fresh};
+ghost use Rattle.tally.specs.Tally.{zero};
 ghost use Rattle.block.specs.Places.{block_size, per_block};
 ghost use Rattle.block.specs.Block.{seconds_from};
 ghost use Rattle.report.specs.Text.{second_room, block_room};
-ghost use Rattle.report.specs.Running.{keep, run_of, second_in, seconds_in, block_in, KeptReady, Adds};
+ghost use Rattle.report.specs.Running.{keep, run_of, verdict_told, second_in, seconds_in, block_in, KeptReady, Adds};
 
 use crate::Form;
 use crate::lines::add_second;
-use block::Block;
-use book::{Book, BookAnswer};
+use book::Book;
+use refusals::Refusal;
+use sheet::Sheet;
 use tally::Tally;
 
 // How a book is run: the form of its lines, and what its header gives.
@@ -19,120 +23,77 @@ pub struct Plan {
     pub seconds: u32,
 }
 
-// All accepted so far, or the number of the refusal that ends the text.
+// What is kept of the accepted seconds: the book, and how often each kind stood outside its band.
 #[derive(Clone, Copy)]
-pub enum Verdict {
-    Accepted,
-    Refused(u8),
-}
-
-// Where a run stands: what is kept of the accepted seconds, which is the book and how often each kind stood outside its band; `used` bytes of the
-// buffer wait to be written.
-#[derive(Clone, Copy)]
-pub struct Run {
+pub struct Kept {
     pub book: Book,
     pub tally: Tally,
-    pub used: usize,
-    pub verdict: Verdict,
 }
 
-fn accepted(book: Book, tally: Tally, used: usize) -> Run
-    ensures { result ≡ run_of (keep book tally) used Verdict.Accepted }
-{
-    Run {
-        book,
-        tally,
-        used,
-        verdict: Verdict::Accepted,
+impl Kept {
+    // Before the first second, under a sheet whose figures are in range.
+    pub fn new(sheet: Sheet) -> Kept
+        requires { InRange sheet }
+        ensures { (result ≡ keep (fresh sheet) zero) × KeptReady result }
+    {
+        Kept {
+            book: Book::new(sheet),
+            tally: Tally::new(),
+        }
     }
 }
 
-fn refused(book: Book, tally: Tally, used: usize, number: u8) -> Run
-    ensures { result ≡ run_of (keep book tally) used (Verdict.Refused number) }
-{
-    Run {
-        book,
-        tally,
-        used,
-        verdict: Verdict::Refused(number),
-    }
-}
-
-// One book second: its lines, or its refusal.
+// One book second: its lines go where the text in the buffer ends, at `used`; or its refusal.
 pub fn run_second(
-    book: Book,
-    tally: Tally,
-    used: usize,
+    kept: &mut Kept,
     plan: Plan,
     bytes: &[u8],
     out: &mut [u8],
-) -> Run
-    requires { KeptReady (keep book tally) × (used + second_room ≤ length out.old) }
-    ensures { Adds second_room out.old out.new used result (second_in plan (keep book tally) bytes.now) }
+    used: &mut usize,
+) -> Result<(), Refusal>
+    requires { KeptReady kept.old × (used.old + second_room ≤ length out.old) }
+    ensures { Adds second_room out.old out.new used.old (run_of kept.new used.new (verdict_told result)) (second_in plan kept.old bytes.now) }
 {
-    let form = plan.form;
-    let step = book.second(plan.owner, bytes);
-    let next = step.book;
-    let answer = step.answer;
-    match answer {
-        BookAnswer::Rows { unit, a, b } => accepted(
-            next,
-            tally.with_second(unit, a, b),
-            add_second(out, used, form, book.unit.seconds, unit, a, b),
-        ),
-        BookAnswer::Refused(number) => refused(next, tally, used, number),
-        BookAnswer::RefusedBy { plant: _, number } => refused(next, tally, used, number),
-    }
+    let second = kept.book.unit.seconds;
+    let rows = match kept.book.second(plan.owner, bytes) {
+        Ok(rows) => rows,
+        Err(refusal) => return Err(refusal.refusal()),
+    };
+    kept.tally = kept.tally.with_second(rows.unit, rows.a, rows.b);
+    *used = add_second(out, *used, plan.form, second, rows);
+    Ok(())
 }
 
 // The seconds of a block, until one is refused.
 fn run_seconds(
-    book: Book,
-    tally: Tally,
-    used: usize,
+    kept: &mut Kept,
     plan: Plan,
     block: &[u8],
     count: usize,
     out: &mut [u8],
-) -> Run
-    requires { KeptReady (keep book tally) × (length block.now ≡ block_size) × (count ≤ per_block) × (used + block_room ≤ length out.old) }
-    ensures { Adds block_room out.old out.new used result (seconds_in plan (keep book tally) (seconds_from block.now 0 count)) }
+    used: &mut usize,
+) -> Result<(), Refusal>
+    requires { KeptReady kept.old × (length block.now ≡ block_size) × (count ≤ per_block) × (used.old + block_room ≤ length out.old) }
+    ensures { Adds block_room out.old out.new used.old (run_of kept.new used.new (verdict_told result)) (seconds_in plan kept.old (seconds_from block.now 0 count)) }
 {
-    let mut run = accepted(book, tally, used);
-    let mut i: usize = 0;
-    while i < count {
-        run = run_second(
-            run.book,
-            run.tally,
-            run.used,
-            plan,
-            block::second(block, i),
-            out,
-        );
-        let verdict = run.verdict;
-        if let Verdict::Refused(_) = verdict {
-            return run;
-        }
-        i += 1;
+    for i in 0..count {
+        run_second(kept, plan, block::second(block, i), out, used)?;
     }
-    run
+    Ok(())
 }
 
 // Block n as it was read: its seconds are run, or it is refused.
 pub fn run_block(
-    book: Book,
-    tally: Tally,
-    used: usize,
+    kept: &mut Kept,
     plan: Plan,
     n: u32,
     block: &[u8],
     out: &mut [u8],
-) -> Run
-    requires { KeptReady (keep book tally) × (used + block_room ≤ length out.old) }
-    ensures { Adds block_room out.old out.new used result (block_in plan n (keep book tally) block.now) }
+    used: &mut usize,
+) -> Result<(), Refusal>
+    requires { KeptReady kept.old × (used.old + block_room ≤ length out.old) }
+    ensures { Adds block_room out.old out.new used.old (run_of kept.new used.new (verdict_told result)) (block_in plan n kept.old block.now) }
 {
-    match block::read_block(block, plan.seconds, n) {
-        Block::Refused(number) => refused(book, tally, used, number),
-        Block::Seconds(count) => run_seconds(book, tally, used, plan, block, count, out),
-    }
+    let count = block::read_block(block, plan.seconds, n)?;
+    run_seconds(kept, plan, block, count, out, used)
 }

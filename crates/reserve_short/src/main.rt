@@ -3,8 +3,8 @@
 #![tactic(auto)]
 
 use report::Form;
-use sheet::default_sheet;
+use sheet::Sheet;
 
 fn main(rt: HostRuntime) {
-    stdio::print_book(&rt, &mut rt.stdin(), default_sheet(), Form::Short);
+    stdio::print_book(&rt, &mut rt.stdin(), Sheet::default(), Form::Short);
 }

@@ -8,41 +8,58 @@ use lib.Dec.{eqb}
 use lib.ListN.{length}
 use borrow.Author.Tests.{eq-eqb, ne_eqb, leb-true}
 use Rattle.record.specs.Record.{most_seconds}
+use Rattle.std.proofs.Common.{Result, Ok, Err, is_ok, is_err, leb}
+use Rattle.refusals.specs.declared.Refusal.{Refusal}
+use Rattle.refusals.specs.Refusals.{number_of, number_in}
+use Rattle.refusals.proofs.Laws.{not_zero}
 use Rattle.block.specs.declared.Header.{Header}
-use Rattle.block.specs.declared.Header.TheVariants as header
 use Rattle.block.specs.Places.{block_size}
 use Rattle.block.specs.Header.{header_number, header_of, header_says}
 use Rattle.block.specs.Said.{refused, answered}
-use Rattle.block.specs.Book.{last_block}
+use Rattle.block.specs.Book.{last_block, past_last}
 use Rattle.block.proofs.Taken.{header_fields, header_zero}
 use Rattle.codec.proofs.Puts.{loosen, none}
-use Rattle.report.specs.declared.run.Run.{Run}
-use Rattle.report.specs.declared.run.Verdict.{Verdict}
-use Rattle.report.specs.declared.run.Verdict.TheVariants.{Accepted, Refused}
-use Rattle.report.specs.Running.{Kept, Ran, Adds, block_in}
+use Rattle.report.specs.declared.run.Kept.{Kept}
+use Rattle.report.specs.Running.{Verdict, Accepted, Refused, verdict_told, Run, Ran, Adds, block_in}
 use Rattle.report.specs.Text.{block_room}
-use Rattle.standing.specs.declared.Standing.{Standing}
-use Rattle.standing.specs.Standing.{Went, kept_by, with_verdict, after_header, header_by, later_by, beyond_by, due_by, is_due, standing_in, bytes_due, StandingReady, Advances}
+use Rattle.standing.specs.Standing.{Standing, Went, kept_by, with_verdict, after_header, header_by, later_by, beyond_by, due_by, is_due, standing_in, bytes_due, StandingReady, Advances}
+
+-- ---- the verdict
+
+pub told_ok : {A : Type 0} (r : Result A Refusal) → is_ok r ≡ true → verdict_told r ≡ Accepted
+told_ok (Ok x) h = refl
+told_ok (Err e) h = let z : ◌≡◌ {A = Bool} true false = sym h in absurd (true≢false z)
+
+pub told_err : {A : Type 0} (r : Result A Refusal) → is_err r ≡ true → (n : ℕ) × (verdict_told r ≡ Refused n)
+told_err (Ok x) h = let z : ◌≡◌ {A = Bool} true false = sym h in absurd (true≢false z)
+told_err (Err e) h = (number_of e, refl)
+
+pub due_ok : {A : Type 0} (r : Result A Refusal) (n t : ℕ) → is_ok r ≡ true → due_by (verdict_told r) n t ≡ leb n (last_block t)
+due_ok r n t h = rw (told_ok r h)
+
+pub due_err : {A : Type 0} (r : Result A Refusal) (n t : ℕ) → is_ok r ≡ false → due_by (verdict_told r) n t ≡ false
+due_err (Ok x) n t h = let z : ◌≡◌ {A = Bool} true false = h in absurd (true≢false z)
+due_err (Err e) n t h = refl
+
+-- bytes after the last block, where nothing was refused
+pub past_last_told : {A : Type 0} (st : Standing) (s : List ℕ) (r : Result A Refusal) → st.verdict ≡ Accepted → number_in r ≡ past_last s → with_verdict st (verdict_told r) ≡ (beyond_by st.verdict st s).standing
+past_last_told st [] (Ok x) a h = rw a
+past_last_told st [] (Err e) a h = absurd (not_zero e h)
+past_last_told st (b ∷ s) (Ok x) a h = absurd (omega (arith, h))
+past_last_told st (b ∷ s) (Err e) a h = rw (a, h)
 
 -- ---- the header
 
 module _ (st : Standing) (s : List ℕ) where
-  pub header_taken : {r : Header} {o t : ℕ} → r ≡ header.Fields o t → header_says r ≡ header_of s → (header_by (header_number s) st s).standing ≡ after_header st o t
-  header_taken {o = o} {t} is says =
-      let f = header_fields s o t (sym says ∙ ap header_says is) in
+  pub header_taken : {r : Result Header Refusal} {h : Header} → r ≡ Ok h → header_says r ≡ header_of s → (header_by (header_number s) st s).standing ≡ after_header st h.owner h.seconds
+  header_taken {h = h} is says =
+      let f = header_fields s h.owner h.seconds (sym says ∙ ap header_says is) in
       rw (header_zero s f.0, f.1, f.2)
 
-  pub few : {r : Header} {o t : ℕ} → r ≡ header.Fields o t → header_says r ≡ header_of s → t ≤ most_seconds
-  few {o = o} {t} is says =
-      let f = header_fields s o t (sym says ∙ ap header_says is) in
+  pub few : {r : Result Header Refusal} {h : Header} → r ≡ Ok h → header_says r ≡ header_of s → h.seconds ≤ most_seconds
+  few {h = h} is says =
+      let f = header_fields s h.owner h.seconds (sym says ∙ ap header_says is) in
       omega (arith, f.0.most, f.2)
-
-  number_is : (q m : ℕ) (vs : List ℕ) → refused m ≡ answered q vs → (header_by q st s).standing ≡ with_verdict st (Refused m)
-  number_is zero m vs e = let z : ◌≡◌ {A = ℕ} 0 1 = cc in absurd (omega arith)
-  number_is (suc q) m vs e = cc
-
-  pub header_refused : {r : Header} {n : ℕ} → r ≡ header.Refused n → header_says r ≡ header_of s → (header_by (header_number s) st s).standing ≡ with_verdict st (Refused n)
-  header_refused {n = n} is says = number_is (header_number s) n _ (sym (ap header_says is) ∙ says)
 
   no_text : (q : ℕ) → (header_by q st s).text ≡ []
   no_text zero = refl
@@ -70,21 +87,6 @@ pub beyond_text : (v : Verdict) (st : Standing) (s : List ℕ) → (beyond_by v 
 beyond_text (Refused n) st s = refl
 beyond_text Accepted st [] = refl
 beyond_text Accepted st (b ∷ s) = refl
-
-pub beyond_none : (st : Standing) (s : List ℕ) → length s ≡ 0 → st ≡ (beyond_by st.verdict st s).standing
-beyond_none st s h = go st.verdict s h
-  where
-    go : (v : Verdict) (l : List ℕ) → length l ≡ 0 → st ≡ (beyond_by v st l).standing
-    go (Refused n) l h = refl
-    go Accepted [] h = refl
-    go Accepted (b ∷ l) h = absurd (omega arith)
-
-pub beyond_refused : (st : Standing) {n : ℕ} (s : List ℕ) → st.verdict ≡ Refused n → st ≡ (beyond_by st.verdict st s).standing
-beyond_refused st s e = rw e
-
-pub beyond_some : (st : Standing) (s : List ℕ) → st.verdict ≡ Accepted → (length s ≡ 0 → ⊥) → with_verdict st (Refused 21) ≡ (beyond_by st.verdict st s).standing
-beyond_some st [] e h = absurd (h refl)
-beyond_some st (b ∷ s) e h = rw e
 
 -- ---- no bytes are left over from a block
 
@@ -118,15 +120,6 @@ module _ (st : Standing) (s : List ℕ) {r : Standing} {b : List ℕ} {used : �
 
   pub header_block : is_due st ≡ true → st.next ≡ 0 → r ≡ (header_by (header_number s) st s).standing → Advances block_room b b used (record { standing = r; used = used }) (standing_in st s)
   header_block d z is = rw (header_is st s d z) (quiet is (no_text st s (header_number s)))
-
--- a later one, from what its run added
-pub later_block : {st : Standing} {b e : List ℕ} {used : ℕ} {r : Run} {w : Ran} → StandingReady st → Adds block_room b e used r w → Advances block_room b e used (record { standing = record { plan = st.plan; next = st.next + 1; book = r.book; tally = r.tally; verdict = r.verdict }; used = r.used }) (later_by w st)
-later_block {st} ready f =
-    record {
-      standing = rw (ap (λ (k : Kept). k.book) f.kept, ap (λ (k : Kept). k.tally) f.kept, f.verdict);
-      text = f.text;
-      ready = record { kept = f.ready; few = ready.few };
-    }
 
 -- ---- the bytes that are due
 

@@ -10,12 +10,31 @@ use Rattle.block.specs.Header.{header_number, owner_of, seconds_of}
 use Rattle.block.specs.Book.{last_block}
 use Rattle.codec.specs.Put.{Put}
 use Rattle.line.specs.Line.{sum_text, refusal_text}
+use Rattle.tally.specs.declared.Tally.{Tally}
 use Rattle.report.specs.declared.Form.{Form}
-use Rattle.report.specs.declared.run.Verdict.{Verdict}
-use Rattle.report.specs.declared.run.Verdict.TheVariants.{Accepted, Refused}
-use Rattle.report.specs.Running.{Kept, keep, Ran, block_in, KeptReady}
-use Rattle.standing.specs.declared.Standing.{Standing}
-use Rattle.standing.specs.declared.Advance.{Advance}
+use Rattle.report.specs.declared.run.Kept.{Kept}
+use Rattle.report.specs.declared.run.Plan.{Plan}
+use Rattle.report.specs.Running.{Verdict, Accepted, Refused, verdict_told, keep, Ran, block_in, KeptReady}
+use Rattle.standing.specs.declared.Standing.{Standing as Held}
+
+-- ---- where a book stands
+
+-- between two of its blocks: `next` is the number of the block next in turn, 0 for the header
+pub record Standing : Type 0 where
+  pub plan : Plan
+  pub next : ℕ
+  pub book : Book
+  pub tally : Tally
+  pub verdict : Verdict
+
+-- what the code's standing says
+abbrev pub stood : Held → Standing
+stood h = record { plan = h.plan; next = h.next; book = h.kept.book; tally = h.kept.tally; verdict = verdict_told h.verdict }
+
+-- after a block, with `used` bytes of text in the buffer
+pub record Advance : Type 0 where
+  pub standing : Standing
+  pub used : ℕ
 
 -- ---- block after block
 

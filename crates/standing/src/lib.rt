@@ -4,17 +4,19 @@
 
 ghost use Rattle.std.specs.Prelude.{◌+◌, ◌≤◌, ◌≡◌, true, length};
 ghost use Rattle.sheet.specs.Sheet.{InRange};
+ghost use Rattle.refusals.specs.Refusals.{number_in};
 ghost use Rattle.record.specs.Record.{most_seconds};
-ghost use Rattle.report.specs.Text.{block_room, text_of};
-ghost use Rattle.report.specs.Running.{block_in};
-ghost use Rattle.standing.specs.Standing.{start, kept_by, is_due, bytes_due, with_verdict, header_by, later_by, beyond_by, standing_in, last_line_in, end_of, StandingReady, Advances};
+ghost use Rattle.block.specs.Book.{past_last};
 ghost use Rattle.block.specs.Header.{header_number};
+ghost use Rattle.report.specs.Text.{block_room, text_of};
+ghost use Rattle.report.specs.Running.{verdict_told, block_in};
+ghost use Rattle.standing.specs.Standing.{stood, start, kept_by, is_due, bytes_due, header_by, later_by, beyond_by, standing_in, last_by, last_line_in, end_of, StandingReady, Advances};
 
 use block::Header;
 use book::Book;
-use report::{Form, Plan, TextLine, Verdict};
+use refusals::Refusal;
+use report::{Form, Kept, Plan, TextLine};
 use sheet::Sheet;
-use tally::Tally;
 
 // Where a book stands between two of its blocks: `next` is the number of the block next in turn, 0 for the header. Before the header the plan
 // has no seconds, so that block 0 is the last one due.
@@ -22,22 +24,38 @@ use tally::Tally;
 pub struct Standing {
     pub plan: Plan,
     pub next: u32,
-    pub book: Book,
-    pub tally: Tally,
-    pub verdict: Verdict,
+    pub kept: Kept,
+    pub verdict: Result<(), Refusal>,
 }
 
-// Where it stands after a block, with `used` bytes of text in the buffer.
-#[derive(Clone, Copy)]
-pub struct Advance {
-    pub standing: Standing,
-    pub used: usize,
+// What bytes after the last block say.
+pub fn past_last(bytes: &[u8]) -> Result<(), Refusal>
+    ensures { number_in result ≡ past_last bytes.now }
+{
+    if bytes.is_empty() {
+        Ok(())
+    } else {
+        Err(Refusal::BytesLeft)
+    }
+}
+
+// The sum line, or the refusal that ends the text.
+pub fn last_line(verdict: Result<(), Refusal>, book: &Book) -> TextLine
+    ensures { text_of result ≡ last_by (verdict_told verdict) book.now }
+{
+    match verdict {
+        Ok(()) => TextLine::Sums(book.sums),
+        Err(refusal) => TextLine::Refusal {
+            refusal,
+            seconds: book.unit.seconds,
+        },
+    }
 }
 
 impl Standing {
     pub fn new(sheet: Sheet, form: Form) -> Standing
         requires { InRange sheet }
-        ensures { (result ≡ start sheet form) × StandingReady result }
+        ensures { (stood result ≡ start sheet form) × StandingReady (stood result) }
     {
         Standing {
             plan: Plan {
@@ -46,157 +64,92 @@ impl Standing {
                 seconds: 0,
             },
             next: 0,
-            book: Book::new(sheet),
-            tally: Tally::new(),
-            verdict: Verdict::Accepted,
+            kept: Kept::new(sheet),
+            verdict: Ok(()),
         }
     }
 
     // Whether a block is due.
-    pub fn is_due(self) -> bool
-        requires { StandingReady self }
-        ensures { result ≡ is_due self }
+    pub fn is_due(&self) -> bool
+        requires { StandingReady (stood self.now) }
+        ensures { result ≡ is_due (stood self.now) }
     {
-        let verdict = self.verdict;
-        if let Verdict::Refused(_) = verdict {
-            return false;
-        }
-        let plan = self.plan;
-        self.next <= block::last_block(plan.seconds)
+        self.verdict.is_ok() && self.next <= block::last_block(self.plan.seconds)
     }
 
     // The bytes of the blocks that are due.
-    pub fn bytes_due(self) -> usize
-        requires { StandingReady self × (is_due self ≡ true) }
-        ensures { result ≡ bytes_due self }
+    pub fn bytes_due(&self) -> usize
+        requires { StandingReady (stood self.now) × (is_due (stood self.now) ≡ true) }
+        ensures { result ≡ bytes_due (stood self.now) }
     {
-        let plan = self.plan;
-        let left = block::last_block(plan.seconds) + 1 - self.next;
-        (left as usize) * block::SIZE
-    }
-
-    fn refused(self, number: u8) -> Standing
-        ensures { result ≡ with_verdict self (Verdict.Refused number) }
-    {
-        let book = self.book;
-        let tally = self.tally;
-        let plan = self.plan;
-        Standing {
-            plan,
-            next: self.next,
-            book,
-            tally,
-            verdict: Verdict::Refused(number),
-        }
+        let left = block::last_block(self.plan.seconds) + 1 - self.next;
+        left as usize * block::SIZE
     }
 
     // The header gives owner and seconds.
-    fn header(self, bytes: &[u8]) -> Standing
-        requires { StandingReady self }
-        ensures { (result ≡ (header_by (header_number bytes.now) self bytes.now).standing) × StandingReady result }
+    fn header(&mut self, bytes: &[u8])
+        requires { StandingReady (stood self.old) }
+        ensures { (stood self.new ≡ (header_by (header_number bytes.now) (stood self.old) bytes.now).standing) × StandingReady (stood self.new) }
     {
-        let book = self.book;
-        let tally = self.tally;
-        let verdict = self.verdict;
-        let plan = self.plan;
-        let form = plan.form;
         match block::read_header(bytes) {
-            Header::Refused(number) => self.refused(number),
-            Header::Fields { owner, seconds } => Standing {
-                plan: Plan {
-                    form,
-                    owner,
-                    seconds,
-                },
-                next: 1,
-                book,
-                tally,
-                verdict,
-            },
+            Ok(Header { owner, seconds }) => {
+                self.plan.owner = owner;
+                self.plan.seconds = seconds;
+                self.next = 1;
+            }
+            Err(refusal) => self.verdict = Err(refusal),
         }
     }
 
     // A later block: its seconds are run, or it is refused.
-    fn later(self, used: usize, bytes: &[u8], out: &mut [u8]) -> Advance
-        requires { StandingReady self × (used + block_room ≤ length out.old) × (self.next ≤ most_seconds) }
-        ensures { Advances block_room out.old out.new used result (later_by (block_in self.plan self.next (kept_by self) bytes.now) self) }
+    fn later(&mut self, bytes: &[u8], out: &mut [u8], used: &mut usize)
+        requires { StandingReady (stood self.old) × (used.old + block_room ≤ length out.old) × (self.old.next ≤ most_seconds) }
+        ensures { Advances block_room out.old out.new used.old (record { standing = stood self.new; used = used.new }) (later_by (block_in self.old.plan self.old.next (kept_by (stood self.old)) bytes.now) (stood self.old)) }
     {
-        let plan = self.plan;
-        let run = report::run_block(self.book, self.tally, used, plan, self.next, bytes, out);
-        let book = run.book;
-        let tally = run.tally;
-        let verdict = run.verdict;
-        Advance {
-            standing: Standing {
-                plan,
-                next: self.next + 1,
-                book,
-                tally,
-                verdict,
-            },
-            used: run.used,
-        }
+        self.verdict = report::run_block(&mut self.kept, self.plan, self.next, bytes, out, used);
+        self.next += 1;
     }
 
     // Bytes that no block is due for: after the last block they are refused, after a refusal nothing counts.
-    pub fn beyond(self, bytes: &[u8]) -> Standing
-        requires { StandingReady self }
-        ensures { (result ≡ (beyond_by self.verdict self bytes.now).standing) × StandingReady result }
+    pub fn beyond(&mut self, bytes: &[u8])
+        requires { StandingReady (stood self.old) }
+        ensures { (stood self.new ≡ (beyond_by (verdict_told self.old.verdict) (stood self.old) bytes.now).standing) × StandingReady (stood self.new) }
     {
-        let verdict = self.verdict;
-        if let Verdict::Refused(_) = verdict {
-            return self;
+        if self.verdict.is_ok() {
+            self.verdict = past_last(bytes);
         }
-        if bytes.len() == 0 {
-            return self;
-        }
-        self.refused(21)
     }
 
-    // The next block, of any bytes.
-    pub fn block(self, used: usize, bytes: &[u8], out: &mut [u8]) -> Advance
-        requires { StandingReady self × (used + block_room ≤ length out.old) }
-        ensures { Advances block_room out.old out.new used result (standing_in self bytes.now) }
+    // The next block, of any bytes: its text goes where the text in the buffer ends, at `used`.
+    pub fn block(&mut self, bytes: &[u8], out: &mut [u8], used: &mut usize)
+        requires { StandingReady (stood self.old) × (used.old + block_room ≤ length out.old) }
+        ensures { Advances block_room out.old out.new used.old (record { standing = stood self.new; used = used.new }) (standing_in (stood self.old) bytes.now) }
     {
         if !self.is_due() {
-            return Advance {
-                standing: self.beyond(bytes),
-                used,
-            };
+            self.beyond(bytes);
+        } else if self.next == 0 {
+            self.header(bytes);
+        } else {
+            self.later(bytes, out, used);
         }
-        if self.next == 0 {
-            return Advance {
-                standing: self.header(bytes),
-                used,
-            };
-        }
-        self.later(used, bytes, out)
     }
 
     // What the end of the bytes says: a block that is due and isn't whole gets 12.
-    fn end(self) -> Verdict
-        requires { StandingReady self }
-        ensures { result ≡ end_of self }
+    fn end(&self) -> Result<(), Refusal>
+        requires { StandingReady (stood self.now) }
+        ensures { verdict_told result ≡ end_of (stood self.now) }
     {
         if self.is_due() {
-            return Verdict::Refused(12);
+            return Err(Refusal::Length);
         }
         self.verdict
     }
 
     // The sum line, or the refusal.
-    pub fn last_line(self) -> TextLine
-        requires { StandingReady self }
-        ensures { text_of result ≡ last_line_in self }
+    pub fn last_line(&self) -> TextLine
+        requires { StandingReady (stood self.now) }
+        ensures { text_of result ≡ last_line_in (stood self.now) }
     {
-        let book = self.book;
-        let sums = book.sums;
-        match self.end() {
-            Verdict::Accepted => TextLine::Sums(sums),
-            Verdict::Refused(number) => TextLine::Refusal {
-                number,
-                seconds: book.unit.seconds,
-            },
-        }
+        last_line(self.end(), &self.kept.book)
     }
 }

@@ -10,9 +10,7 @@ use Rattle.codec.specs.Put.{Put}
 use Rattle.sheet.specs.declared.Sheet.{Sheet}
 use Rattle.sheet.specs.Sheet.{InRange}
 use Rattle.report.specs.declared.Form.{Form}
-use Rattle.pieces.specs.declared.reading.Reading.{Reading}
-use Rattle.pieces.specs.declared.reading.Taken.{Taken}
-use Rattle.pieces.specs.Pieces.{bytes_in, last_in, wanted_in, part_of, ReadingReady, Takes, IsStart}
+use Rattle.pieces.specs.Pieces.{Reading, Taken, bytes_in, last_in, wanted_in, part_of, ReadingReady, Takes, IsStart}
 use Rattle.pieces.proofs.Bytes.{cut}
 use Rattle.printed.specs.Printed.{printed}
 use Rattle.printed.proofs.Claims.{wanted_none}

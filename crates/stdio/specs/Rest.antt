@@ -1,7 +1,6 @@
 -- What is printed of a book from where it stands on.
 use Rattle.std.specs.Prelude.{List, ℕ, ◌++◌}
-use Rattle.pieces.specs.declared.reading.Reading.{Reading}
-use Rattle.pieces.specs.Pieces.{bytes_in, last_in, part_of}
+use Rattle.pieces.specs.Pieces.{Reading, bytes_in, last_in, part_of}
 
 -- where the bytes s follow and no more
 unfoldable pub rest_of : Reading → List ℕ → List ℕ

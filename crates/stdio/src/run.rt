@@ -1,7 +1,6 @@
 // A book's run: its bytes are read where the last piece stood, taken, and their text is sent.
 ghost use Rattle.sheet.specs.Sheet.{InRange};
-ghost use Rattle.pieces.specs.declared.reading.Reading.{Reading};
-ghost use Rattle.pieces.specs.Pieces.{ReadingReady, IsStart};
+ghost use Rattle.pieces.specs.Pieces.{Reading as Place, reads, ReadingReady, IsStart};
 ghost use Rattle.stdio.specs.Rest.{rest_of};
 
 use pieces::{PIECE, PIECE_ROOM, Reading};
@@ -21,11 +20,11 @@ pub(crate) struct Run {
 
 // Seen as where the book stands.
 impl Model for Run {
-    ghost Value = { Reading };
+    ghost Value = { Place };
 
-    ghost view = { λ r. r.reading };
+    ghost view = { λ r. reads r.reading };
 
-    ghost invariant = { λ r. ReadingReady r.reading };
+    ghost invariant = { λ r. ReadingReady (reads r.reading) };
 }
 
 impl Run {
@@ -55,9 +54,8 @@ impl Session for Run {
         if n == 0 {
             return Ok(false);
         }
-        let taken = self.reading.take(&self.bytes[..n], &mut self.out);
-        self.reading = taken.reading;
-        send(output, &self.out[..taken.used])?;
+        let used = self.reading.take(&self.bytes[..n], &mut self.out);
+        send(output, &self.out[..used])?;
         Ok(true)
     }
 
