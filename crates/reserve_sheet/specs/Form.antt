@@ -1,13 +1,12 @@
 -- The 16 bytes of a sheet that stand before its book (D64): "FCR floor, aFRR floor, excess: a byte each; FCR and aFRR reaction time: a byte each; 3
 -- bytes 0; least range, 4 bytes little-endian, signed; 4 bytes 0".
-use Rattle.std.specs.Prelude.{ℕ, zero, suc, ◌≡◌, Bool, ◌||◌, List, [], ◌∷◌, length, get_or}
+use Rattle.std.specs.Prelude.{ℕ, Bool, ◌||◌, List, [], ◌∷◌, length, get_or}
+use Rattle.refusals.specs.Refusals.{Answer, answer_by}
 use Rattle.numbers.specs.Rules.{Rule, refuse, first, differ}
 use Rattle.codec.specs.Little.{u32_at, i32_at}
 use Rattle.power.specs.Units.{kw}
 use Rattle.sheet.specs.declared.Sheet.{Sheet}
-use Rattle.sheet.specs.Sheet.{sheet_number, InRange}
-use Rattle.reserve_sheet.specs.declared.SheetReading.{SheetReading}
-use Rattle.reserve_sheet.specs.declared.SheetReading.TheVariants.{Figures, Refused}
+use Rattle.sheet.specs.Sheet.{sheet_number}
 
 abbrev pub sheet_size : ℕ
 sheet_size = 16
@@ -38,14 +37,6 @@ form_rules s = refuse 12 (differ (length s) sheet_size) ∷ refuse 18 (spare_set
 unfoldable pub form_number : List ℕ → ℕ
 form_number s = first (form_rules s)
 
-abbrev pub read_by : ℕ → List ℕ → SheetReading
-read_by zero s = Figures (sheet_of s)
-read_by (suc n) s = Refused (suc n)
-
-unfoldable pub read_of : List ℕ → SheetReading
-read_of s = read_by (form_number s) s
-
--- what reading ensures: figures that are given are in range
-pub record IsRead (s : List ℕ) (r : SheetReading) : Type 0 where
-  pub is : r ≡ read_of s
-  pub in_range : {sh : Sheet} → r ≡ Figures sh → InRange sh
+-- what is read of the bytes
+unfoldable pub read_of : List ℕ → Answer Sheet
+read_of s = answer_by (form_number s) (sheet_of s)

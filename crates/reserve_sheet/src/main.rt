@@ -2,27 +2,20 @@
 // sheet is turned down. What is printed is `sheet_printed` of specs/Printed.antt.
 #![tactic(auto)]
 
-ghost use Rattle.std.specs.Prelude.{◌≡◌, ◌≤◌, length};
-ghost use Rattle.line.specs.Widths.{row_room};
-ghost use Rattle.reserve_sheet.specs.Form.{sheet_size, sheet_of, spare_set, figure_out, form_number, IsRead};
+ghost use Rattle.std.specs.Prelude.{◌≡◌, length, IfOk};
+ghost use Rattle.reserve_sheet.specs.Form.{sheet_size, sheet_of, spare_set, read_of};
+ghost use Rattle.refusals.specs.Refusals.{told};
+ghost use Rattle.sheet.specs.Sheet.{InRange};
 
 use power::Kw;
+use refusals::Refusal;
 use report::{Form, TextLine};
 use sheet::Sheet;
 
 // The bytes of a sheet.
 const SIZE: usize = 16;
 
-// Room for a refusal's line.
-const ROOM: usize = line::ROW_ROOM;
-
-// The figures, which are in range; or the refusal number.
-#[derive(Clone, Copy)]
-pub enum SheetReading {
-    Figures(Sheet),
-    Refused(u8),
-}
-
+#[tactic(auto, unfolding(crate::specs::Form::sheet_of))]
 fn sheet_of(s: &[u8]) -> Sheet
     requires { length s.now ≡ sheet_size }
     ensures { result ≡ sheet_of s.now }
@@ -41,83 +34,43 @@ fn is_spare_set(s: &[u8]) -> bool
     requires { length s.now ≡ sheet_size }
     ensures { result ≡ spare_set s.now }
 {
-    if s[5] != 0 {
-        return true;
-    }
-    if s[6] != 0 {
-        return true;
-    }
-    if s[7] != 0 {
-        return true;
-    }
-    if codec::read_u32(s, 12) != 0 {
-        return true;
-    }
-    false
+    s[5..8] != [0; 3] || s[12..16] != [0; 4]
 }
 
-fn is_figure_out(s: &[u8]) -> bool
-    requires { length s.now ≡ sheet_size }
-    ensures { result ≡ figure_out s.now }
-{
-    if sheet_of(s).number() != 0 {
-        return true;
-    }
-    false
-}
-
-// 12 for another length, 18 for a spare byte, 30 for a figure outside its range; or 0.
-fn form_number(s: &[u8]) -> u8
-    ensures { result ≡ form_number s.now }
+// The sheet of any bytes, its figures in range; or 12 for another length, 18 for a spare byte and 30 for a figure outside its range.
+fn read(s: &[u8]) -> Result<Sheet, Refusal>
+    ensures is { told result ≡ read_of s.now }
+    ensures in_range { IfOk result InRange }
 {
     if s.len() != SIZE {
-        return 12;
+        return Err(Refusal::Length);
     }
     if is_spare_set(s) {
-        return 18;
+        return Err(Refusal::SpareByte);
     }
-    if is_figure_out(s) {
-        return 30;
-    }
-    0
+    let sheet = sheet_of(s);
+    sheet.check()?;
+    Ok(sheet)
 }
 
-// The sheet of any bytes.
-fn read(s: &[u8]) -> SheetReading
-    ensures { IsRead s.now result }
-{
-    let number = form_number(s);
-    if number != 0 {
-        return SheetReading::Refused(number);
-    }
-    SheetReading::Figures(sheet_of(s))
-}
-
-fn send(rt: &impl Print, out: &[u8], end: usize) -> bool
-    requires { end ≤ length out.now }
-{
-    rt.write_all(&out[..end]).is_ok()
-}
-
-fn refuse(rt: &impl Print, number: u8, out: &mut [u8])
-    requires { row_room ≤ length out.old }
-{
-    let end = report::add(out, 0, TextLine::Refusal { number, seconds: 0 });
-    send(rt, out, end);
+fn refuse(rt: &impl Print, refusal: Refusal) {
+    let mut out = [0; line::ROW_ROOM];
+    let end = report::add(
+        &mut out,
+        0,
+        TextLine::Refusal {
+            refusal,
+            seconds: 0,
+        },
+    );
+    let _ = rt.write_all(&out[..end]);
 }
 
 fn main(rt: HostRuntime) {
     let mut bytes = [0; SIZE];
-    let mut out = [0; ROOM];
     let n = full_read::read_full(&mut rt.stdin(), &mut bytes);
-    let reading = read(&bytes[..n]);
-    match reading {
-        SheetReading::Refused(number) => refuse(&rt, number, &mut out),
-        SheetReading::Figures(sheet) => stdio::print_book(
-            &rt,
-            &mut rt.stdin(),
-            sheet,
-            Form::Figures,
-        ),
+    match read(&bytes[..n]) {
+        Ok(sheet) => stdio::print_book(&rt, &mut rt.stdin(), sheet, Form::Figures),
+        Err(refusal) => refuse(&rt, refusal),
     }
 }

@@ -1,12 +1,8 @@
 -- What is printed from where the book stands on, after some bytes, where none are wanted and from the first byte. Assumes nothing.
-use mathlib.Core.Path.{◌≡◌, refl, sym, ◌∙◌}
+use mathlib.Core.Path.{◌≡◌, refl}
 use mathlib.Core.List.{List, [], ◌++◌, append_assoc}
-use Prim.Native.Nat.{ℕ, ◌+◌}
-use native.Mathlib.Nat.{zero-add}
-use lib.ListN.{length, take, drop}
-use lib.Seq.{take_at}
+use Prim.Native.Nat.{ℕ}
 use Rattle.std.specs.Prelude.{Option, Some, None, IfSome}
-use Rattle.codec.specs.Put.{Put}
 use Rattle.sheet.specs.declared.Sheet.{Sheet}
 use Rattle.sheet.specs.Sheet.{InRange}
 use Rattle.report.specs.declared.Form.{Form}
