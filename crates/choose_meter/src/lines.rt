@@ -61,6 +61,7 @@ fn keep(bytes: &mut [u8], from: usize, end: usize) -> usize
 }
 
 // The first n bytes are taken: how many bytes of text are in the buffer, and how many of a record begun at the front.
+#[tactic(auto, using(crate::proofs::Laws::rest_is))]
 pub(crate) fn take(bytes: &mut [u8], n: usize, buf: &mut [u8]) -> (usize, usize)
     requires { (n ≤ length bytes.old) × (n ≤ piece_size) × (piece_room ≤ length buf.old) }
     ensures { Takes bytes.old bytes.new n buf.old buf.new result.0 result.1 }
@@ -71,6 +72,7 @@ pub(crate) fn take(bytes: &mut [u8], n: usize, buf: &mut [u8]) -> (usize, usize)
 }
 
 // The line of a record that the input ends in; nothing where it ends before one.
+#[tactic(auto, using(crate::proofs::Laws::nothing, crate::proofs::Laws::cut_short))]
 pub(crate) fn put_rest(buf: &mut [u8], bytes: &[u8]) -> usize
     requires { (length bytes.now < record_size) × (piece_room ≤ length buf.old) }
     ensures { Put line_width buf.old buf.new 0 result (printed bytes.now) }

@@ -20,6 +20,7 @@ fn reading_of(form: u8, value: f32) -> Reading
     }
 }
 
+#[tactic(auto, unfolding(crate::specs::Records::meter_at))]
 fn meter_at(s: &[u8], at: usize) -> Meter
     requires { at + meter_size ≤ length s.now }
     ensures { result ≡ meter_at s.now at }
