@@ -21,12 +21,12 @@ fn sheet_of(s: &[u8]) -> Sheet
     ensures { result ≡ sheet_of s.now }
 {
     Sheet {
-        fcr_floor: codec::wide(s[0]),
-        afrr_floor: codec::wide(s[1]),
-        excess: codec::wide(s[2]),
+        fcr_floor: u32::from(s[0]),
+        afrr_floor: u32::from(s[1]),
+        excess: u32::from(s[2]),
         least_range: Kw(codec::read_i32(s, 8)),
-        fcr_reaction: codec::wide(s[3]),
-        afrr_reaction: codec::wide(s[4]),
+        fcr_reaction: u32::from(s[3]),
+        afrr_reaction: u32::from(s[4]),
     }
 }
 
