@@ -27,6 +27,7 @@ values =
       earlier_fault = refl;
       quarter_hours = refl;
       last_status_is = refl;
+      no_call = refl;
       seven = refl;
       all_on = refl;
       off_at_0 = refl;

@@ -10,7 +10,8 @@ use Rattle.row.specs.declared.Rounding.{Rounding}
 use Rattle.row.specs.declared.KindRow.{KindRow}
 use Rattle.plant.specs.declared.Kinds.{Kinds}
 use Rattle.plant.specs.declared.Setpoints.{Setpoints}
-use Rattle.plant.specs.Seconds.{moved_on, afrr_second, setpoints_with, setpoints_at}
+use Rattle.mfrr.specs.Signal.{quiet}
+use Rattle.plant.specs.Seconds.{moved_on, mfrr_second, afrr_second, setpoints_with, setpoints_at}
 use Rattle.plant.specs.Refusals.{record_number, off_number, rules_with, record_number_at, length_rule, number_at}
 use Rattle.plant.specs.Rows.{kinds_with, shared_difference, figures_of}
 
@@ -133,6 +134,8 @@ pub record Values : Type 0 where
   pub quarter_hours : map (λ (t : ℕ). record_number t 0 (in_status 7)) (0 ∷ 1 ∷ 899 ∷ 900 ∷ 901 ∷ 1800 ∷ []) ≡ 0 ∷ 26 ∷ 26 ∷ 0 ∷ 26 ∷ 0 ∷ []
   -- the last status is the newest accepted second's, 0 before second 0
   pub last_status_is : map (record_number_at [] (in_status 1 ∷ [])) (in_status 1 ∷ in_status 0 ∷ in_status 8 ∷ in_status 2 ∷ []) ≡ 0 ∷ 26 ∷ 0 ∷ 26 ∷ []
+  -- without a call its target and its end count for nothing
+  pub no_call : mfrr_second (calling 0 (pos 9000) 900) ≡ quiet
   pub seven :
       map (record_number 0 0)
       (calling 1 (pos 1) 1 ∷ calling 2 (pos 0) 0 ∷ calling 0 (pos 1) 0 ∷ calling 0 (negsuc 0) 0 ∷ calling 0 (pos 0) 1 ∷ [])

@@ -2,6 +2,8 @@
 #![tactic(auto)]
 
 ghost use Rattle.std.specs.Prelude.{◌≡◌};
+ghost use Rattle.std.specs.Prelude.{Some};
+ghost use Rattle.std.specs.Fmt.{decimal};
 ghost use Rattle.refusals.specs.Refusals.{number_of};
 
 use std::error::Error;
@@ -24,7 +26,7 @@ pub enum Refusal {
     NinthLeftover = 10,
     // A kind off whose setpoint isn't 0; aFRR's and mFRR's are 24 and 25.
     FcrOff = 11,
-    // Of a second, a block, a sheet, or of the buffer for one.
+    // Of the bytes handed over, or of the buffer for a block.
     Length = 12,
     Check = 13,
     FirstBytes = 14,
@@ -42,7 +44,7 @@ pub enum Refusal {
     SecondsBytes = 23,
     AfrrOff = 24,
     MfrrOff = 25,
-    // A kind goes on or off between two quarter hours.
+    // Between two quarter hours a kind goes on, or off without a fault.
     StatusChange = 26,
     MeterCount = 27,
     NoUsableMeter = 28,
@@ -64,6 +66,8 @@ impl Refusal {
 }
 
 impl fmt::Display for Refusal {
+    ghost output = { λ e. Some (decimal (number_of e)) };
+
     fn fmt<W: fmt::Write>(&self, f: &mut fmt::Formatter<W>) -> fmt::Result {
         write!(f, "{}", self.number())
     }
