@@ -27,3 +27,7 @@ taken {least} {b} {text = text} {r = r} h f = given r (f.answer ∙ (rw (le-ltb 
     given : (r : Result ℕ Refusal) → told r ≡ Given (length text) → r ≡ Ok (length text)
     given (Ok x) e = cc
     given (Err x) e = cc
+
+-- the buffer that is left
+pub left : {least : ℕ} {b d e text : List ℕ} {r : Result ℕ Refusal} → e ≡ d → Lined least b d r text → Lined least b e r text
+left h f = rw h f

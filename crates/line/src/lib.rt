@@ -5,19 +5,13 @@
 
 mod book_lines;
 mod number;
-mod row_lines;
-mod share_lines;
-mod short_lines;
 
 ghost use Rattle.std.specs.Prelude.{◌≡◌, nat_lt, length, if◌then◌else◌};
 ghost use Rattle.refusals.specs.Refusals.{number_in};
 
-pub use book_lines::{refusal_line, second_line, sum_line};
+pub use book_lines::{second_line, sum_line};
 pub use number::{Figure, put_count, put_field};
 use refusals::Refusal;
-pub use row_lines::{ROW_ROOM, plant_line};
-pub use share_lines::plant_shares;
-pub use short_lines::{plant_counts, plant_short};
 
 // Turns down a buffer of fewer than `least` bytes.
 fn check_room(buf: &[u8], least: usize) -> Result<(), Refusal>

@@ -1,7 +1,6 @@
--- The name, and what the library prints, which is the sum in decimal.
 use Rattle.std.proofs.Common.{arith, w64, SFits, rules}
 use Rattle.std.proofs.Math.Facts.{to_z-of_z}
-use Rattle.codec.proofs.Puts.{both}
+use Rattle.codec.proofs.Texts.{both}
 use Rattle.line.specs.Text.{named}
 use lib.Signed.{nat_abs-le}
 use Rattle.line.proofs.Printed.{signed_is}
@@ -11,4 +10,4 @@ pub returns : goal.returns
 unfolding named
 returns c =
     let f : SFits w64 c.args.v.0 = search rules in
-    rw (← signed_is c.args.v.0 (omega (arith, nat_abs-le c.args.v.0 f.sfits))) (both c.put_bytes-at.ensures (rw (to_z-of_z f) at c.put_number.ensures))
+    rw (← signed_is c.args.v.0 (omega (arith, nat_abs-le c.args.v.0 f.sfits))) (both c.bytes.ensures (rw (to_z-of_z f) at c.put_number.ensures))

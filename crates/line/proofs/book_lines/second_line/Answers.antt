@@ -1,10 +1,14 @@
--- What the calls put, one after the other, where there is room.
-use Rattle.codec.proofs.Puts.{both}
-use Rattle.line.proofs.Lines.{written}
+use Rattle.std.proofs.Common.{arith, rules, ◌∙◌}
+use Rattle.codec.proofs.Texts.{both}
+use Rattle.line.proofs.Lines.{written, left}
 use Rattle.line.specs.Line.{second_text}
-use Rattle.std.proofs.Common.{arith}
 use Rattle.line.proofs.book_lines.second_line.Goals as goal
 
 pub returns : goal.returns
 unfolding second_text
-returns c = written c.in_ok-check_room.ensures (omega arith) (both c.put_count-at.ensures (both c.put_plant-at.ensures (both c.put_plant-at-2.ensures (both c.put_plant-at-3.ensures c.put_byte.ensures))))
+returns c =
+    let p = both c.put_count.ensures (both c.put_plant.ensures (both c.put_plant-2.ensures (both c.put_plant-3.ensures c.byte.ensures))) in
+    let same = p.same ∙ c.new-text.ensures.same in
+    let put = rw (c.new-text.ensures.bytes, c.new-text.ensures.start) at p.put in
+    let w = written c.in_ok-check_room.ensures (omega arith) put in
+    left (search rules) w

@@ -1,10 +1,14 @@
--- What the calls put, one after the other, where there is room.
-use Rattle.codec.proofs.Puts.{both}
-use Rattle.line.proofs.Lines.{written}
+use Rattle.std.proofs.Common.{arith, rules, ◌∙◌}
+use Rattle.codec.proofs.Texts.{both}
+use Rattle.line.proofs.Lines.{written, left}
 use Rattle.line.specs.Line.{sum_text}
-use Rattle.std.proofs.Common.{arith}
 use Rattle.line.proofs.book_lines.sum_line.Goals as goal
 
 pub returns : goal.returns
 unfolding sum_text
-returns c = written c.in_ok-check_room.ensures (omega arith) (both c.put_named-at.ensures (both c.put_named-at-2.ensures (both c.put_named-at-3.ensures (both c.put_named-at-4.ensures c.put_byte.ensures))))
+returns c =
+    let p = both c.put_named.ensures (both c.put_named-2.ensures (both c.put_named-3.ensures (both c.put_named-4.ensures c.byte.ensures))) in
+    let same = p.same ∙ c.new-text.ensures.same in
+    let put = rw (c.new-text.ensures.bytes, c.new-text.ensures.start) at p.put in
+    let w = written c.in_ok-check_room.ensures (omega arith) put in
+    left (search rules) w

@@ -1,5 +1,4 @@
--- What the library prints are the digits.
-use Rattle.std.proofs.Common.{arith}
+use Rattle.std.proofs.Common.{arith, Fits}
 use Rattle.line.proofs.Printed.{printed_is}
 use Rattle.line.proofs.number.put_count.Goals as goal
 

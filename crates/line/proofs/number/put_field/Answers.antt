@@ -1,7 +1,6 @@
--- A space, and what the library prints, which is the number in decimal.
 use Rattle.std.proofs.Common.{arith, w32, SFits, rules}
 use Rattle.std.proofs.Math.Facts.{to_z-of_z}
-use Rattle.codec.proofs.Puts.{both}
+use Rattle.codec.proofs.Texts.{both}
 use Rattle.line.specs.Text.{field}
 use lib.Signed.{nat_abs-le}
 use Rattle.line.proofs.Printed.{signed_is}
@@ -11,4 +10,4 @@ pub returns : goal.returns
 unfolding field
 returns g c =
     let f : SFits w32 c.number.result = search rules in
-    rw (← c.number.ensures, ← signed_is c.number.result (omega (arith, nat_abs-le c.number.result f.sfits))) (both c.put_byte-to.ensures (rw (to_z-of_z f) at c.put_number.ensures))
+    rw (← c.number.ensures, ← signed_is c.number.result (omega (arith, nat_abs-le c.number.result f.sfits))) (both c.byte.ensures (rw (to_z-of_z f) at c.put_number.ensures))

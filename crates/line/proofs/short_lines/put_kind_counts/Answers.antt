@@ -1,9 +1,0 @@
--- What the calls put, one after the other.
-use Rattle.codec.proofs.Puts.{both, loosen}
-use Rattle.line.specs.Short.{kind_counts_text}
-use Rattle.std.proofs.Common.{arith}
-use Rattle.line.proofs.short_lines.put_kind_counts.Goals as goal
-
-pub returns : goal.returns
-unfolding kind_counts_text
-returns c = loosen (omega arith) (both c.put_byte-at.ensures (both c.put_bytes-at.ensures (both c.put_side_count-at.ensures (both c.put_side_count-at-2.ensures c.put_byte.ensures))))
