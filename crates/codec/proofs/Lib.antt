@@ -1,3 +1,4 @@
 pub mod Little
 pub mod Puts
 pub mod Values
+pub mod Lents
