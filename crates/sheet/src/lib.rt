@@ -1,12 +1,14 @@
-// The sheet of figures that a book opens with (02, W9), the rule that turns one down, and how many grains make a kW under it.
+// The sheet of figures that a book opens with (02, W9), and the rule that turns one down; one that it doesn't turn down is `FairSheet` (src/fair.rt).
 #![tactic(auto)]
+
+mod fair;
 
 ghost use Rattle.std.specs.Prelude.{◌≡◌};
 ghost use Rattle.refusals.specs.Refusals.{number_in};
-ghost use Rattle.power.specs.Units.{Divides};
-ghost use Rattle.sheet.specs.Sheet.{percent_out, range_out, fcr_reaction_out, afrr_reaction_out, sheet_number, InRange, per_kw, factor, default_sheet};
+ghost use Rattle.sheet.specs.Sheet.{percent_out, range_out, fcr_reaction_out, afrr_reaction_out, sheet_number, InRange, default_sheet};
 
-use power::{Kw, PerKw};
+pub use fair::FairSheet;
+use power::Kw;
 use refusals::Refusal;
 
 // The largest floor and excess, in percent.
@@ -25,7 +27,7 @@ const MOST_AFRR_REACTION: u32 = 60;
 // The seconds back that aFRR's setpoints count.
 pub const WINDOW: u32 = 300;
 
-// The figures of a book.
+// The six figures as they are handed over, in their ranges or not.
 #[derive(Clone, Copy, Debug, PartialEq, Eq)]
 pub struct Sheet {
     // FCR's and aFRR's floor: the tolerance that is always there, in percent of held.
@@ -82,23 +84,6 @@ impl Sheet {
             return Err(Refusal::SheetFigure);
         }
         Ok(())
-    }
-
-    // The grains of a kW.
-    #[tactic(auto, using(crate::proofs::Sizes::divides), unfolding(crate::specs::Sheet::per_kw))]
-    pub fn per_kw(self) -> PerKw
-        requires { InRange self }
-        ensures { (result.0 ≡ per_kw self) × Divides result.0 }
-    {
-        PerKw(100 * (2 * self.fcr_reaction * (WINDOW - self.afrr_reaction)))
-    }
-
-    // mFRR's factor, in percent.
-    pub fn factor(self) -> u32
-        requires { InRange self }
-        ensures { result ≡ factor self }
-    {
-        100 + self.excess
     }
 }
 

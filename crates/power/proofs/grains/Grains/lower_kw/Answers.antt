@@ -22,14 +22,18 @@ less per d =
     one_less = nat_eq (omega (arith, sub_nat (pos per) (pos 1), d.some))
 
 pub plus-raised-requires : goal.plus-raised-requires
-plus-raised-requires c = rw (less _ c.requires.0) (raised_fits _ c.requires.0 _ c.requires.1)
+plus-raised-requires c = rw (c.from.ensures, less _ c.args.per.divides) (raised_fits _ c.args.per.divides _ c.requires)
 
 -- the raised limit rounds down to the lower limit
 raised : (per : ℕ) (v r : ℤ) → Divides per → r ≡ v +ℤ to_z w64 (of_z w64 (to_z w64 per -ℤ pos 1)) → upper_kw per r ≡ lower_kw per v
 raised per v r d e = ap (upper_kw per) (e ∙ ap (λ (z : ℤ). v +ℤ z) (less per d)) ∙ lower_raised per d.some v
 
 pub upper_kw-requires : goal.upper_kw-requires
-upper_kw-requires c = (c.requires.0, rw (raised _ _ _ c.requires.0 c.plus-raised.ensures) c.requires.1)
+upper_kw-requires c =
+    let e = rw (c.from.ensures) at c.plus-raised.ensures in
+    rw (raised _ _ _ c.args.per.divides e) c.requires
 
 pub returns : goal.returns
-returns c = c.upper_kw.ensures ∙ raised _ _ _ c.requires.0 c.plus-raised.ensures
+returns c =
+    let e = rw (c.from.ensures) at c.plus-raised.ensures in
+    c.upper_kw.ensures ∙ raised _ _ _ c.args.per.divides e

@@ -21,30 +21,30 @@ module _ (v : ℤ) (per : ℕ) (f : SFits w32 (upper_kw per v)) where
 
 pub overflow_cast-result : goal.overflow_cast-result
 overflow_cast-result c =
-    let m = per_most _ c.requires.0 in
+    let m = per_most _ c.args.per.divides in
     let t : le_z (pos 0) c.args.self.0 ≡ true = search tests in
-    let h = upper_far _ c.requires.0 _ c.requires.1 in
-    carry (above _ _ c.requires.1 t) (search is depth 16)
+    let h = upper_far _ c.args.per.divides _ c.requires in
+    carry (above _ _ c.requires t) (search is depth 16)
 
 pub overflow_cast-result-else-v-ge0 : goal.overflow_cast-result-else-v-ge0
 overflow_cast-result-else-v-ge0 c =
-    let m = per_most _ c.requires.0 in
+    let m = per_most _ c.args.per.divides in
     let t : le_z (pos 0) c.args.self.0 ≡ false = search tests in
-    let h = upper_far _ c.requires.0 _ c.requires.1 in
-    carry (below _ _ c.requires.1 t) (search is depth 16)
+    let h = upper_far _ c.args.per.divides _ c.requires in
+    carry (below _ _ c.requires t) (search is depth 16)
 
 pub returns-then-v-ge0 : goal.returns-then-v-ge0
 returns-then-v-ge0 c =
-    let m = per_most _ c.requires.0 in
+    let m = per_most _ c.args.per.divides in
     let t : le_z (pos 0) c.args.self.0 ≡ true = search tests in
-    let h = upper_far _ c.requires.0 _ c.requires.1 in
-    let f = above _ _ c.requires.1 t in
+    let h = upper_far _ c.args.per.divides _ c.requires in
+    let f = above _ _ c.requires t in
     through (upper_above _ _ t) (search is depth 16)
 
 pub returns-else-v-ge0 : goal.returns-else-v-ge0
 returns-else-v-ge0 c =
-    let m = per_most _ c.requires.0 in
+    let m = per_most _ c.args.per.divides in
     let t : le_z (pos 0) c.args.self.0 ≡ false = search tests in
-    let h = upper_far _ c.requires.0 _ c.requires.1 in
-    let f = below _ _ c.requires.1 t in
+    let h = upper_far _ c.args.per.divides _ c.requires in
+    let f = below _ _ c.requires t in
     through (upper_below _ _ t) (search is depth 16)
