@@ -1,8 +1,8 @@
 -- A refusal's number is never 0, so that 0 stands for none, and it names the refusal.
-use Rattle.std.proofs.Common.{◌≡◌, ℕ, suc, arith, ap, Result, Ok, Err, refl, sym}
+use Rattle.std.proofs.Common.{◌≡◌, ℕ, suc, arith, refl}
 use Rattle.refusals.specs.declared.Refusal.{Refusal}
 use Rattle.refusals.specs.declared.Refusal.TheVariants as refusal
-use Rattle.refusals.specs.Refusals.{number_of, Given, Refused, answer_by, told, number_in}
+use Rattle.refusals.specs.Refusals.{number_of, Refused, answer_by}
 
 -- a number of a refusal, less one
 pub data Positive : ℕ → Type 0 where
@@ -51,8 +51,3 @@ not_zero e = never_zero (number_positive e)
 
 pub refused_by : {A : Type 0} {n : ℕ} (x : A) → Positive n → answer_by n x ≡ Refused n
 refused_by x (positive n) = refl
-
--- what a result says is given by its number, where a result that is none of a refusal is x
-pub told_by : {A : Type 0} (r : Result A Refusal) (x : A) → ((y : A) → r ≡ Ok y → y ≡ x) → told r ≡ answer_by (number_in r) x
-told_by (Ok y) x f = ap Given (f y refl)
-told_by (Err e) x f = sym (refused_by x (number_positive e))
