@@ -1,7 +1,5 @@
 -- A ramp's value is between its ends, so that it fits.
-use Rattle.numbers.specs.Bounds.{Within}
 use Rattle.numbers.proofs.Fit.{fit}
-use Rattle.power.specs.Units.{most_reserve}
 use Rattle.mfrr.specs.Signal.{ramp_up, ramp_down}
 use Rattle.mfrr.specs.State.{value_in}
 use Rattle.mfrr.proofs.Ready.{value_within}
