@@ -29,6 +29,7 @@ pub struct AblaState {
 
 impl AblaState {
     // No second was accepted yet.
+    #[tactic(auto, unfolding(crate::specs::State::state_of, crate::specs::State::stage_of, crate::specs::Band::lower_before), using(crate::proofs::Steps::fresh))]
     pub fn new() -> Self
         ensures { (result ≡ state_of []) × Ready result }
     {
