@@ -2,23 +2,26 @@
 #![tactic(auto)]
 
 ghost use Rattle.std.specs.Prelude.{◌≡◌};
-ghost use Rattle.sheet.specs.Sheet.{first_figures, InRange};
+ghost use Rattle.sheet.specs.Sheet.{first_figures};
 ghost use Rattle.fcr.specs.Values.{fall_tolerance};
 ghost use Rattle.afrr.specs.Values.{lower_at};
 
 use afrr::{AfrrState, Second};
 use fcr::FcrState;
 use power::Kw;
-use sheet::Sheet;
+use sheet::{FairSheet, Sheet};
 use std::io;
 
 // Document 01's figures: the default sheet with its least range of 5,000 kW.
-fn first_sheet() -> Sheet
-    ensures { (result ≡ first_figures) × InRange result }
+#[tactic(auto, unfolding(sheet::specs::Sheet::default_sheet, sheet::specs::Sheet::first_figures))]
+fn first_sheet() -> FairSheet
+    ensures { result.figures ≡ first_figures }
 {
-    Sheet {
-        least_range: Kw(5000),
-        ..Sheet::default()
+    FairSheet {
+        figures: Sheet {
+            least_range: Kw(5000),
+            ..Sheet::default()
+        },
     }
 }
 

@@ -9,19 +9,19 @@ use Rattle.afrr.proofs.limits_of.Goals as goal
 
 pub lower-requires : goal.lower-requires
 lower-requires c =
-    let least = c.outermost.ensures min_z (λ a b r k. search rules) ∙ smallest_part c.args.sheet.afrr_reaction c.args.state.now.past (search rules) in
-    (c.per_kw-per.ensures.1, rw (least, c.gradient_of.ensures, c.percent.ensures, c.held.ensures.held, c.per_kw-per.ensures.0) (lower_sources _ c.requires.0 _ _ c.requires.1 c.requires.2))
+    let least = c.outermost.ensures min_z (λ a b r k. search rules) ∙ smallest_part c.args.sheet.figures.afrr_reaction c.args.state.now.past (search rules) in
+    (rw (least, c.gradient_of.ensures, c.percent.ensures, c.held.ensures.held, c.per_kw-per.ensures) (lower_sources _ c.args.sheet.in_range _ _ c.requires.0 c.requires.1))
 
 pub upper-requires : goal.upper-requires
 upper-requires c =
-    let most = c.outermost-2.ensures max_z (λ a b r k. search rules) ∙ largest_part c.args.sheet.afrr_reaction c.args.state.now.past (search rules) in
-    (c.per_kw-per.ensures.1, rw (most, c.gradient_of.ensures, c.percent.ensures, c.held.ensures.held, c.per_kw-per.ensures.0) (upper_sources _ c.requires.0 _ _ c.requires.1 c.requires.2))
+    let most = c.outermost-2.ensures max_z (λ a b r k. search rules) ∙ largest_part c.args.sheet.figures.afrr_reaction c.args.state.now.past (search rules) in
+    (rw (most, c.gradient_of.ensures, c.percent.ensures, c.held.ensures.held, c.per_kw-per.ensures) (upper_sources _ c.args.sheet.in_range _ _ c.requires.0 c.requires.1))
 
 pub returns : goal.returns
 unfolding limits_by
 returns c =
-    let least = c.outermost.ensures min_z (λ a b r k. search rules) ∙ smallest_part c.args.sheet.afrr_reaction c.args.state.now.past (search rules) in
-    let most = c.outermost-2.ensures max_z (λ a b r k. search rules) ∙ largest_part c.args.sheet.afrr_reaction c.args.state.now.past (search rules) in
-    let down = rw (least, c.gradient_of.ensures, c.percent.ensures, c.held.ensures.held, c.per_kw-per.ensures.0) at c.lower.ensures in
-    let up = rw (most, c.gradient_of.ensures, c.percent.ensures, c.held.ensures.held, c.per_kw-per.ensures.0) at c.upper.ensures in
+    let least = c.outermost.ensures min_z (λ a b r k. search rules) ∙ smallest_part c.args.sheet.figures.afrr_reaction c.args.state.now.past (search rules) in
+    let most = c.outermost-2.ensures max_z (λ a b r k. search rules) ∙ largest_part c.args.sheet.figures.afrr_reaction c.args.state.now.past (search rules) in
+    let down = rw (least, c.gradient_of.ensures, c.percent.ensures, c.held.ensures.held, c.per_kw-per.ensures) at c.lower.ensures in
+    let up = rw (most, c.gradient_of.ensures, c.percent.ensures, c.held.ensures.held, c.per_kw-per.ensures) at c.upper.ensures in
     λ i. record { lower = grains (down i); upper = grains (up i) }

@@ -19,7 +19,7 @@ fair : Fair s held
 fair = record { setpoint_range = within_lit most_reserve s.0 tt; held_range = within_lit most_reserve held.0 tt; held_sign = record { le = tt } }
 
 pub step-band-requires : goal.step-band-requires
-step-band-requires c = (c.first_sheet-sheet.ensures.1, c.new-state.ensures.1, fair)
+step-band-requires c = (c.new-state.ensures.1, fair)
 
 pub loop-init : goal.loop-init
 loop-init c =
@@ -28,11 +28,11 @@ loop-init c =
     record {
       ready = e.ready;
       small = e.small.1;
-      answered = e.is ∙ ap (λ (st : FcrState). step_in sh.result st s held) c.new-state.ensures.0 ∙ claims.follows sh.result sh.ensures.1 [] s held;
+      answered = e.is ∙ ap (λ (st : FcrState). step_in sh.result.figures st s held) c.new-state.ensures.0 ∙ claims.follows sh.result.figures sh.result.in_range [] s held;
     }
 
 pub step-band-requires-in-loop : goal.step-band-requires-in-loop
-step-band-requires-in-loop c = (c.first_sheet-sheet.ensures.1, c.loop.invariant.ready, fair)
+step-band-requires-in-loop c = (c.loop.invariant.ready, fair)
 
 pub loop-preserved : goal.loop-preserved
 loop-preserved c =
@@ -42,13 +42,13 @@ loop-preserved c =
     record {
       ready = e.ready;
       small = e.small.1;
-      answered = rw add-one (e.is ∙ ap (λ (st : FcrState). step_in sh.result st s held) before ∙ claims.follows sh.result sh.ensures.1 (replicate (suc c.loop.counter) s) s held);
+      answered = rw add-one (e.is ∙ ap (λ (st : FcrState). step_in sh.result.figures st s held) before ∙ claims.follows sh.result.figures sh.result.in_range (replicate (suc c.loop.counter) s) s held);
     }
 
 pub returns : goal.returns
 returns c =
     let e : c.loop.counter ≡ c.args.age = omega arith in
-    let sheet = c.first_sheet-sheet.ensures.0 in
+    let sheet = c.first_sheet-sheet.ensures in
     c.minus.ensures
     ∙ (λ i. (c.loop.invariant.answered i).band.high.0 -ℤ s.0)
     ∙ (λ i. (band_at (sheet i) (replicate (e i) s) s held).high.0 -ℤ s.0)

@@ -11,5 +11,5 @@ invariant-loop l =
     record {
       ready : Ready l.state;
       small : Within most_limit l.band.high.0;
-      answered : ◌≡◌ {A = FcrStep} (record { band = l.band; state = l.state }) (record { band = band_at l.sheet (replicate l.counter l.s) l.s (kw (pos 400)); state = state_of (l.s ∷ replicate l.counter l.s) });
+      answered : ◌≡◌ {A = FcrStep} (record { band = l.band; state = l.state }) (record { band = band_at l.sheet.figures (replicate l.counter l.s) l.s (kw (pos 400)); state = state_of (l.s ∷ replicate l.counter l.s) });
     }

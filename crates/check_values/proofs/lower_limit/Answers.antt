@@ -23,7 +23,7 @@ fair =
     }
 
 pub step-band-requires : goal.step-band-requires
-step-band-requires c = (c.first_sheet-sheet.ensures.1, c.new-state.ensures.ready _, fair)
+step-band-requires c = (c.new-state.ensures.ready _, fair)
 
 pub loop-init : goal.loop-init
 loop-init c =
@@ -31,11 +31,11 @@ loop-init c =
     let e = c.step-band.ensures in
     record {
       ready = e.ready;
-      answered = e.is ∙ ap (λ (st : AfrrState). step_in sh.result st x) (c.new-state.ensures.is sh.result) ∙ claims.follows sh.result sh.ensures.1 [] x;
+      answered = e.is ∙ ap (λ (st : AfrrState). step_in sh.result.figures st x) (c.new-state.ensures.is sh.result.figures) ∙ claims.follows sh.result.figures sh.result.in_range [] x;
     }
 
 pub step-band-requires-in-loop : goal.step-band-requires-in-loop
-step-band-requires-in-loop c = (c.first_sheet-sheet.ensures.1, c.loop.invariant.ready, fair)
+step-band-requires-in-loop c = (c.loop.invariant.ready, fair)
 
 pub loop-preserved : goal.loop-preserved
 loop-preserved c =
@@ -44,10 +44,10 @@ loop-preserved c =
     let before = ap (λ (r : AfrrStep). r.state) c.loop.invariant.answered in
     record {
       ready = e.ready;
-      answered = rw add-one (e.is ∙ ap (λ (st : AfrrState). step_in sh.result st x) before ∙ claims.follows sh.result sh.ensures.1 (replicate (suc c.loop.counter) x) x);
+      answered = rw add-one (e.is ∙ ap (λ (st : AfrrState). step_in sh.result.figures st x) before ∙ claims.follows sh.result.figures sh.result.in_range (replicate (suc c.loop.counter) x) x);
     }
 
 pub returns : goal.returns
 returns c =
     let e : c.loop.counter ≡ c.args.second = omega arith in
-    (λ i. (c.loop.invariant.answered i).band.low.0) ∙ (λ i. lower_at (c.first_sheet-sheet.ensures.0 i) (e i))
+    (λ i. (c.loop.invariant.answered i).band.low.0) ∙ (λ i. lower_at (c.first_sheet-sheet.ensures i) (e i))

@@ -4,8 +4,8 @@ use Rattle.fcr.proofs.limits_of.Goals as goal
 
 pub minus-requires : goal.minus-requires
 minus-requires c =
-    rw (c.in_grains-base.ensures, c.tolerance.ensures, c.per_kw.ensures.0) (minus_fits _ c.requires.0 _ _ c.requires.1 _ c.requires.3)
+    rw (c.in_grains-base.ensures, c.tolerance.ensures, c.per_kw.ensures) (minus_fits _ c.args.sheet.in_range _ _ c.requires.0 _ c.requires.2)
 
 pub plus-requires : goal.plus-requires
 plus-requires c =
-    rw (c.in_grains-base.ensures, c.tolerance-2.ensures, c.per_kw.ensures.0) (plus_fits _ c.requires.0 _ _ c.requires.1 _ c.requires.2)
+    rw (c.in_grains-base.ensures, c.tolerance-2.ensures, c.per_kw.ensures) (plus_fits _ c.args.sheet.in_range _ _ c.requires.0 _ c.requires.1)

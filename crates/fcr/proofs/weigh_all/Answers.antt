@@ -17,22 +17,22 @@ loop-age-init c = record { at_age = refl; falls = refl; rises = refl }
 
 pub plus-falls-requires : goal.plus-falls-requires
 plus-falls-requires c =
-    let now = ranged_cons c.args.s c.args.past.now c.requires.2 c.requires.1 in
+    let now = ranged_cons c.args.s c.args.past.now c.requires.1 c.requires.0 in
     added_fits _ _ _
-    (rw c.loop-age.invariant.falls (falls_within c.args.sheet c.requires.0 c.loop-age.age _ now (search rules)))
-    c.fall.ensures.1 (rw c.at_age-one.ensures (parts_within c.args.sheet c.requires.0 c.loop-age.age))
+    (rw c.loop-age.invariant.falls (falls_within c.args.sheet.figures c.args.sheet.in_range c.loop-age.age _ now (search rules)))
+    c.fall.ensures.1 (rw c.at_age-one.ensures (parts_within c.args.sheet.figures c.args.sheet.in_range c.loop-age.age))
 
 pub plus-rises-requires : goal.plus-rises-requires
 plus-rises-requires c =
-    let now = ranged_cons c.args.s c.args.past.now c.requires.2 c.requires.1 in
+    let now = ranged_cons c.args.s c.args.past.now c.requires.1 c.requires.0 in
     added_fits _ _ _
-    (rw c.loop-age.invariant.rises (rises_within c.args.sheet c.requires.0 c.loop-age.age _ now (search rules)))
-    c.rise.ensures.1 (rw c.at_age-one.ensures (parts_within c.args.sheet c.requires.0 c.loop-age.age))
+    (rw c.loop-age.invariant.rises (rises_within c.args.sheet.figures c.args.sheet.in_range c.loop-age.age _ now (search rules)))
+    c.rise.ensures.1 (rw c.at_age-one.ensures (parts_within c.args.sheet.figures c.args.sheet.in_range c.loop-age.age))
 
 pub loop-age-preserved : goal.loop-age-preserved
 loop-age-preserved c =
     let v = c.loop-age.invariant in
-    let more = λ (change : ℤ → ℤ → ℤ → ℤ). sum_more (weighed c.args.sheet change) c.args.s c.args.past.now c.loop-age.age in
+    let more = λ (change : ℤ → ℤ → ℤ → ℤ). sum_more (weighed c.args.sheet.figures change) c.args.s c.args.past.now c.loop-age.age in
     record {
       at_age = rw add-one refl;
       falls = c.plus-falls.ensures ∙ (λ i. c.loop-age.falls.0 +ℤ c.fall.ensures.0 i *ℤ c.at_age-one.ensures i) ∙ more fallen _ c.loop-age.sj v.falls v.at_age;
@@ -42,13 +42,13 @@ loop-age-preserved c =
 pub returns : goal.returns
 returns c =
     let v = c.loop-age.invariant in
-    let q = c.requires.0 in
-    let now = ranged_cons c.args.s c.args.past.now c.requires.2 c.requires.1 in
+    let q = c.args.sheet.in_range in
+    let now = ranged_cons c.args.s c.args.past.now c.requires.1 c.requires.0 in
     let e : c.loop-age.age ≡ kept = search rules in
-    let in_grains = λ (z : ℤ). z *ℤ pos (per_time_part c.args.sheet) in
+    let in_grains = λ (z : ℤ). z *ℤ pos (per_time_part c.args.sheet.figures) in
     record {
-      falls_are = c.in_grains.ensures ∙ ap in_grains (rw e at v.falls) ∙ sym (falls_summed c.args.sheet q (c.args.s ∷ c.args.past.now));
-      rises_are = c.in_grains-2.ensures ∙ ap in_grains (rw e at v.rises) ∙ sym (rises_summed c.args.sheet q (c.args.s ∷ c.args.past.now));
-      falls_small = rw (c.in_grains.ensures, v.falls) (grains_within c.args.sheet q _ (falls_within c.args.sheet q c.loop-age.age _ now (search rules)));
-      rises_small = rw (c.in_grains-2.ensures, v.rises) (grains_within c.args.sheet q _ (rises_within c.args.sheet q c.loop-age.age _ now (search rules)));
+      falls_are = c.in_grains.ensures ∙ ap in_grains (rw e at v.falls) ∙ sym (falls_summed c.args.sheet.figures q (c.args.s ∷ c.args.past.now));
+      rises_are = c.in_grains-2.ensures ∙ ap in_grains (rw e at v.rises) ∙ sym (rises_summed c.args.sheet.figures q (c.args.s ∷ c.args.past.now));
+      falls_small = rw (c.in_grains.ensures, v.falls) (grains_within c.args.sheet.figures q _ (falls_within c.args.sheet.figures q c.loop-age.age _ now (search rules)));
+      rises_small = rw (c.in_grains-2.ensures, v.rises) (grains_within c.args.sheet.figures q _ (rises_within c.args.sheet.figures q c.loop-age.age _ now (search rules)));
     }

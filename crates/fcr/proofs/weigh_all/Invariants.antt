@@ -9,6 +9,6 @@ abbrev pub invariant-loop-age : goal.invariant-loop-age
 invariant-loop-age l =
     record {
       at_age : l.sj ≡ get_or (l.s ∷ l.past) l.age (kw (pos 0));
-      falls : l.falls.0 ≡ sum_to l.age (aged (weighed l.sheet fallen) (l.s ∷ l.past));
-      rises : l.rises.0 ≡ sum_to l.age (aged (weighed l.sheet risen) (l.s ∷ l.past));
+      falls : l.falls.0 ≡ sum_to l.age (aged (weighed l.sheet.figures fallen) (l.s ∷ l.past));
+      rises : l.rises.0 ≡ sum_to l.age (aged (weighed l.sheet.figures risen) (l.s ∷ l.past));
     }

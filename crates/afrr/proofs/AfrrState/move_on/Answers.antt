@@ -10,7 +10,7 @@ use Rattle.afrr.proofs.AfrrState.move_on.Goals as goal
 
 pub returns : goal.returns
 returns c =
-    let sh = c.args.sheet in
+    let sh = c.args.sheet.figures in
     let st = c.args.self.now in
     let len : length st.past ≡ window = search rules in
     let past = c.push_newest.ensures ∙ ap (λ (n : ℕ). c.args.s ∷ take (n - 1) st.past) len in
@@ -18,7 +18,7 @@ returns c =
     let all = older_part (sh.afrr_reaction - 1) window now (search rules) in
     record {
       past = past;
-      highest = c.next-self.ensures max_z (λ a b r k. search rules) ∙ ap (λ (l : List Kw). next_by max_z l st.highest) all ∙ by_max sh c.requires now st.highest ∙ ap (λ (p : List Kw). next_highest sh st.highest p (joining sh p)) past;
-      lowest = c.next-self-2.ensures min_z (λ a b r k. search rules) ∙ ap (λ (l : List Kw). next_by min_z l st.lowest) all ∙ by_min sh c.requires now st.lowest ∙ ap (λ (p : List Kw). next_lowest sh st.lowest p (joining sh p)) past;
+      highest = c.next-self.ensures max_z (λ a b r k. search rules) ∙ ap (λ (l : List Kw). next_by max_z l st.highest) all ∙ by_max sh c.args.sheet.in_range now st.highest ∙ ap (λ (p : List Kw). next_highest sh st.highest p (joining sh p)) past;
+      lowest = c.next-self-2.ensures min_z (λ a b r k. search rules) ∙ ap (λ (l : List Kw). next_by min_z l st.lowest) all ∙ by_min sh c.args.sheet.in_range now st.lowest ∙ ap (λ (p : List Kw). next_lowest sh st.lowest p (joining sh p)) past;
       limits = refl;
     }

@@ -9,11 +9,11 @@ use Rattle.afrr.proofs.Basis.lower.Goals as goal
 
 pub negated-requires-4 : goal.negated-requires-4
 negated-requires-4 c =
-    let m = mirrored _ _ _ _ _ _ c.requires.1 in
+    let m = mirrored _ _ _ _ _ _ c.requires in
     rw (c.upper.ensures, c.negated.ensures, c.negated-2.ensures, c.negated-3.ensures)
-    (fits_by w64 _ (within_neg _ _ (within_le (most_limit * most_per_kw) _ _ (bound_most most_limit _ _ c.requires.0 (upper_within _ _ _ _ _ _ m)) tt)))
+    (fits_by w64 _ (within_neg _ _ (within_le (most_limit * most_per_kw) _ _ (bound_most most_limit _ _ c.args.self.per.divides (upper_within _ _ _ _ _ _ m)) tt)))
 
 pub returns : goal.returns
 returns c =
     let b = c.args.self in
-    cc (lower_mirror b.per.0 c.args.least.0 c.args.last.0 b.gradient.0 b.setpoint.0 b.floor.0)
+    cc (lower_mirror b.per.grains c.args.least.0 c.args.last.0 b.gradient.0 b.setpoint.0 b.floor.0)

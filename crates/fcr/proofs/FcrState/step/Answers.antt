@@ -7,16 +7,16 @@ use Rattle.fcr.proofs.FcrState.step.Goals as goal
 
 pub published-requires : goal.published-requires
 published-requires c =
-    let fits = band_fits _ c.requires.0 _ _ _ c.requires.1 c.requires.2 in
+    let fits = band_fits _ c.args.sheet.in_range _ _ _ c.requires.0 c.requires.1 in
     let exact = limits_are _ _ _ _ _ _ _ c.weigh_all.ensures c.limits_of.ensures in
-    (c.per_kw.ensures.1, rw (exact, c.per_kw.ensures.0) fits.0, rw (exact, c.per_kw.ensures.0) fits.1)
+    (rw (exact, c.per_kw.ensures) fits.0, rw (exact, c.per_kw.ensures) fits.1)
 
 pub returns : goal.returns
 unfolding step_in
 returns c =
     let exact = limits_are _ _ _ _ _ _ _ c.weigh_all.ensures c.limits_of.ensures in
-    let band = c.published.ensures ∙ (λ i. published_of (c.per_kw.ensures.0 i) (exact i)) in
+    let band = c.published.ensures ∙ (λ i. published_of (c.per_kw.ensures i) (exact i)) in
     let len : length c.args.self.now.past ≡ kept = search rules in
     let past = c.push_newest.ensures ∙ ap (λ (n : ℕ). c.args.s ∷ take (n - 1) c.args.self.now.past) len in
-    let e : _ ≡ step_in c.args.sheet c.args.self.now c.args.s c.args.held = λ i. record { band = band i; state = record { past = past i } } in
-    subst (Stepped c.args.sheet c.args.self.now c.args.s c.args.held) (sym e) (stepped _ c.requires.0 _ _ _ c.requires.1 c.requires.2)
+    let e : _ ≡ step_in c.args.sheet.figures c.args.self.now c.args.s c.args.held = λ i. record { band = band i; state = record { past = past i } } in
+    subst (Stepped c.args.sheet.figures c.args.self.now c.args.s c.args.held) (sym e) (stepped _ c.args.sheet.in_range _ _ _ c.requires.0 c.requires.1)

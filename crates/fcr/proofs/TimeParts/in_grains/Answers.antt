@@ -7,6 +7,6 @@ use Rattle.fcr.proofs.TimeParts.in_grains.Goals as goal
 pub returns : goal.returns
 unfolding per_time_part
 returns c =
-    let h = part_most c.args.sheet c.requires in
-    let k = part_within c.args.sheet c.requires in
-    search same depth 16
+    let h = part_most c.args.sheet.figures c.args.sheet.in_range in
+    let k = part_within c.args.sheet.figures c.args.sheet.in_range in
+    rw (c.from.ensures, c.from-2.ensures) (search same depth 16)
