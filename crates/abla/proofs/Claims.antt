@@ -1,11 +1,6 @@
 -- The claims hold. Assumes nothing.
 use Rattle.power.proofs.Inside.{published_contains}
-use mathlib.Core.Path.{◌≡◌, refl}
-use Prim.Native.Nat.{ℕ, zero, suc, ◌*◌, ◌/◌}
-use native.Mathlib.Omega.{arith}
-use mathlib.Core.Bool.{true, false}
-use lib.Dec.{lit<}
-use lib.IntN.{ℤ, pos, ◌*ℤ◌}
+use Rattle.std.proofs.Common.{◌≡◌, refl, ℕ, zero, suc, ◌*◌, ◌/◌, arith, true, false, lit<, ℤ, pos, ◌*ℤ◌}
 use Rattle.refusals.specs.Refusals.{Refused}
 use Rattle.power.specs.declared.kilowatts.Kw.{Kw}
 use Rattle.power.specs.Units.{kw, in_grains}

@@ -1,12 +1,7 @@
 -- Outside the ramps a band needs no widening. Assumes nothing.
-use mathlib.Core.Path.{◌≡◌}
-use Prim.Native.Nat.{◌*◌, ◌/◌}
-use mathlib.Core.Bool.{true, false, not}
-use mathlib.Core.List.{◌∷◌}
-use native.Mathlib.Omega.{arith}
-use borrow.Author.Tests.{not-true}
-use lib.IntN.{ℤ, pos, ◌+ℤ◌, ◌-ℤ◌}
-use lib.Signed.{lt_z, ◌≤ℤ◌}
+use Rattle.std.proofs.Common.{◌≡◌, ◌*◌, ◌/◌, true, false, not, ◌∷◌, arith, ℤ, pos, ◌+ℤ◌, ◌-ℤ◌, ◌≤ℤ◌}
+use Rattle.std.proofs.lemmas.Bool.{not-true}
+use Rattle.std.specs.Int.Signed.{lt_z}
 use Rattle.numbers.specs.Order.{max_z, min_z}
 use Rattle.numbers.proofs.Parts.{reads, shows, add_nat, sub_nat, mul_nat, one_nat}
 use Rattle.numbers.proofs.Order.{max_nat, min_nat}

@@ -1,9 +1,5 @@
 -- The band of a load that is on contains its setpoint; that of one that is off is 0. Assumes nothing.
-use mathlib.Core.Path.{◌≡◌, refl}
-use mathlib.Core.Bool.{Bool, true, false}
-use native.Mathlib.Omega.{arith}
-use lib.Dec.{lit<}
-use lib.IntN.{ℤ, pos}
+use Rattle.std.proofs.Common.{◌≡◌, refl, Bool, true, false, arith, lit<, ℤ, pos}
 use Rattle.numbers.proofs.Parts.{shows}
 use Rattle.numbers.proofs.Order.{max_nat, min_nat}
 use Rattle.power.specs.declared.limits.Limits.{Limits}

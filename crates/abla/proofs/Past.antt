@@ -1,10 +1,5 @@
 -- A step from the state after a past gives what the past gives. Assumes nothing.
-use mathlib.Core.Path.{◌≡◌, refl, ap}
-use mathlib.Core.Bool.{true, false, cond}
-use mathlib.Core.List.{[], ◌∷◌}
-use Prim.Native.Nat.{ℕ, zero, suc, ◌+◌, min}
-use native.Mathlib.Omega.{arith}
-use lib.Dec.{leb, ltb}
+use Rattle.std.proofs.Common.{◌≡◌, refl, ap, true, false, cond, [], ◌∷◌, ℕ, zero, suc, ◌+◌, min, arith, leb, ltb}
 use Rattle.numbers.specs.Rules.{first}
 use Rattle.std.proofs.lemmas.Bool.Decides.{nat_tests}
 use Rattle.refusals.specs.Refusals.{answer_number}

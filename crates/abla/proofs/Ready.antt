@@ -1,13 +1,5 @@
 -- What a step asks of a state gives the ranges of its values and of the states that follow. Assumes nothing.
-use mathlib.Core.Path.{◌≡◌, refl}
-use mathlib.Core.Bool.{Bool, true, false, not, cond, ◌&&◌}
-use Prim.Native.Nat.{ℕ, ◌+◌, ◌*◌, ◌/◌}
-use native.Mathlib.Omega.{arith}
-use lib.Dec.{ltb, lit<}
-use lib.IntN.{ℤ, ◌-ℤ◌}
-use lib.Signed.{◌≤ℤ◌}
-use mir.Syntax.{w32}
-use mir.Val.{SFits}
+use Rattle.std.proofs.Common.{◌≡◌, refl, Bool, true, false, not, cond, ◌&&◌, ℕ, ◌+◌, ◌*◌, ◌/◌, arith, ltb, lit<, ℤ, ◌-ℤ◌, ◌≤ℤ◌, w32, SFits}
 use Rattle.numbers.specs.Bounds.{Within}
 use Rattle.numbers.proofs.Parts.{reads, nat_within, between, add_nat, sub_nat, mul_nat}
 use Rattle.numbers.proofs.Fit.{fit, within_cond}

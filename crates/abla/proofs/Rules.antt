@@ -1,11 +1,6 @@
 -- What a second that is not refused meets. Assumes nothing.
-use mathlib.Core.Path.{◌≡◌, refl}
-use mathlib.Core.Bool.{Bool, true, false, cond, not, ◌&&◌}
-use Prim.Native.Nat.{ℕ}
-use native.Mathlib.Omega.{arith}
-use lib.Dec.{ltb}
-use lib.IntN.{ℤ, pos, neg_ℤ}
-use lib.Signed.{lt_z, ◌≤ℤ◌}
+use Rattle.std.proofs.Common.{◌≡◌, refl, Bool, true, false, cond, not, ◌&&◌, ℕ, arith, ltb, ℤ, pos, neg_ℤ, ◌≤ℤ◌}
+use Rattle.std.specs.Int.Signed.{lt_z}
 use Rattle.numbers.specs.Bounds.{Within, outside}
 use Rattle.numbers.specs.Rules.{first, differ}
 use Rattle.numbers.proofs.Parts.{between, shows}

@@ -1,7 +1,5 @@
 -- Sums of limits fit their type. Assumes nothing.
-use lib.IntN.{◌+ℤ◌, ◌-ℤ◌}
-use mir.Syntax.{w64}
-use mir.Val.{SFits}
+use Rattle.std.proofs.Common.{◌+ℤ◌, ◌-ℤ◌, w64, SFits}
 use Rattle.numbers.proofs.Fit.{fit}
 use Rattle.power.specs.Units.{in_grains}
 use Rattle.abla.specs.declared.load.LoadSecond.{LoadSecond}

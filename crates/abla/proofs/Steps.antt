@@ -1,19 +1,16 @@
 -- The ends of a step, from any state that is ready. Assumes nothing.
-use Rattle.std.specs.Prelude.{Result, Err}
-use mathlib.Core.Path.{◌≡◌, refl, sym, ap, ◌∙◌}
-use mathlib.Core.List.{[], ◌∷◌}
-use Prim.Native.Nat.{ℕ}
+use Rattle.std.proofs.Common.{Result, Err, ◌≡◌, refl, sym, ap, ◌∙◌, [], ◌∷◌, ℕ}
 use Rattle.numbers.specs.Bounds.{Within}
 use Rattle.numbers.proofs.Fit.{fit}
 use Rattle.refusals.specs.declared.Refusal.{Refusal}
 use Rattle.refusals.specs.Refusals.{Given, Refused, told}
 use Rattle.refusals.specs.Refusals as refusals
 use Rattle.refusals.proofs.Laws.{Positive, positive, number_positive, not_zero}
+use Rattle.power.specs.declared.limits.BandedSetpoint.{BandedSetpoint}
 use Rattle.power.specs.Units.{kw}
 use Rattle.power.specs.Inward.{published_of}
 use Rattle.abla.specs.declared.load.LoadSecond.{LoadSecond}
 use Rattle.abla.specs.declared.AblaState.{AblaState}
-use Rattle.abla.specs.declared.AblaValue.{AblaValue}
 use Rattle.abla.specs.Calls.{History}
 use Rattle.abla.specs.Band.{per_kw, setpoint_of, limits_on, lower_before, band_at}
 use Rattle.abla.specs.Refusals.{most_power, Accepted}
@@ -46,14 +43,14 @@ module _ (s : AblaState) (ok : Ready s) (x : LoadSecond) where
         small = small s ok x f z;
       }
 
-  answer_range : refusal_in s x ≡ 0 → Fair x → {v : AblaValue} → (accepted_in s x).answer ≡ Given v → GivenRange v.setpoint v.band
+  answer_range : refusal_in s x ≡ 0 → Fair x → {v : BandedSetpoint} → (accepted_in s x).answer ≡ Given v → GivenRange v.setpoint v.band
   unfolding accepted_in
   answer_range z f {v} e =
       let p : kw (setpoint_of x) ≡ v.setpoint = cc in
       let q : published_of per_kw (limits_on x (limits_in (stage_in s x) x)) ≡ v.band = cc in
       rw (← p, ← q) (given_in_lem z f)
 
-  pub given : {v : AblaValue} {m : AblaState} → refusal_in s x ≡ 0 → Fair x → accepted_in s x ≡ record { answer = Given v; state = m } → Stepped s x (record { answer = Given v; state = m })
+  pub given : {v : BandedSetpoint} {m : AblaState} → refusal_in s x ≡ 0 → Fair x → accepted_in s x ≡ record { answer = Given v; state = m } → Stepped s x (record { answer = Given v; state = m })
   unfolding step_in step_by
   given z f e =
       record {
@@ -64,7 +61,7 @@ module _ (s : AblaState) (ok : Ready s) (x : LoadSecond) where
         ready = rw e at (next_ready s ok x f);
       }
 
-  pub turned_down : {a : Result AblaValue Refusal} (e : Refusal) → a ≡ Err e → refusals.number_of e ≡ refusal_in s x → Stepped s x (record { answer = told a; state = s })
+  pub turned_down : {a : Result BandedSetpoint Refusal} (e : Refusal) → a ≡ Err e → refusals.number_of e ≡ refusal_in s x → Stepped s x (record { answer = told a; state = s })
   unfolding step_in
   turned_down e f q =
       rw f

@@ -7,13 +7,13 @@ use Rattle.power.specs.declared.kilowatts.Kw.{Kw}
 use Rattle.power.specs.declared.grains.Grains.{Grains}
 use Rattle.power.specs.declared.limits.Limits.{Limits}
 use Rattle.power.specs.declared.limits.Band.{Band}
+use Rattle.power.specs.declared.limits.BandedSetpoint.{BandedSetpoint}
 use Rattle.power.specs.Units.{kw, grains, most_reserve, in_grains}
 use Rattle.power.specs.Inward.{published_of, Published}
 use Rattle.abla.specs.declared.load.LoadSecond.{LoadSecond}
 use Rattle.abla.specs.declared.stage.Stage.{Stage}
 use Rattle.abla.specs.declared.stage.Stage.TheVariants.{Blank, Holding, Called, Returning}
 use Rattle.abla.specs.declared.AblaState.{AblaState}
-use Rattle.abla.specs.declared.AblaValue.{AblaValue}
 use Rattle.abla.specs.Calls.{History, flagged, is_quick, latest, since, quarter_hour, hour}
 use Rattle.abla.specs.Band.{per_kw, setpoint_of, lowest_point, holding, called, called_upper, lower_of, lower_before, ramp_of, returning, limits_on, band_at}
 use Rattle.abla.specs.Refusals.{most_power, load_rules, refusal}
@@ -76,10 +76,10 @@ pub record PointIn (x : LoadSecond) : Type 0 where
 
 -- a second's answer, and the state after it
 pub record AblaStep : Type 0 where
-  pub answer : Answer AblaValue
+  pub answer : Answer BandedSetpoint
   pub state : AblaState
 
-abbrev pub given_value : Kw → Band → Answer AblaValue
+abbrev pub given_value : Kw → Band → Answer BandedSetpoint
 given_value s b = Given (record { setpoint = s; band = b })
 
 -- one more second of a call, up to one hour
@@ -163,11 +163,11 @@ step_of h x =
 -- ---- what a step ensures
 
 -- 02's setpoint and band for each case of an answer; 0 of a refusal
-abbrev pub setpoint_in : Answer AblaValue → ℤ
+abbrev pub setpoint_in : Answer BandedSetpoint → ℤ
 setpoint_in (Given v) = v.setpoint.0
 setpoint_in (Refused n) = pos 0
 
-abbrev pub band_in : Answer AblaValue → Band
+abbrev pub band_in : Answer BandedSetpoint → Band
 band_in (Given v) = v.band
 band_in (Refused n) = record { low = kw (pos 0); high = kw (pos 0) }
 
@@ -181,6 +181,6 @@ pub record Stepped (s : AblaState) (x : LoadSecond) (r : AblaStep) : Type 0 wher
   pub is : r ≡ step_in s x
   -- what callers need to go on
   pub number : answer_number r.answer ≡ refusal_in s x
-  pub given : {v : AblaValue} → r.answer ≡ Given v → GivenRange v.setpoint v.band
+  pub given : {v : BandedSetpoint} → r.answer ≡ Given v → GivenRange v.setpoint v.band
   pub refused : {n : ℕ} → r.answer ≡ Refused n → n ≡ 0 → ⊥
   pub ready : Ready r.state

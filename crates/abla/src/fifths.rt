@@ -8,7 +8,7 @@ ghost use Rattle.abla.specs.Band.{per_kw, fifth_of};
 
 use power::{Band, Grains, Kw, Limits, PerKw};
 
-const PER_KW: PerKw = PerKw(5);
+const PER_KW: PerKw = PerKw { grains: 5 };
 
 pub(crate) fn in_fifths(k: Kw) -> Grains
     ensures { result.0 ≡ in_grains per_kw k.0 }

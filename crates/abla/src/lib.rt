@@ -15,8 +15,8 @@ ghost use Rattle.abla.specs.State.{state_of, Ready, stage_in, refusal_in, accept
 use fifths::published;
 use load::FairSecond;
 pub use load::LoadSecond;
-use power::{Band, Grains, Kw};
-pub use refusal::{MOST_POWER, is_nonzero};
+use power::{BandedSetpoint, Grains};
+pub use refusal::MOST_POWER;
 use refusals::Refusal;
 pub use stage::Stage;
 
@@ -27,15 +27,9 @@ pub struct AblaState {
     pub before: Grains,
 }
 
-// The setpoint, and the band as published.
-#[derive(Clone, Copy, Debug, PartialEq, Eq)]
-pub struct AblaValue {
-    pub setpoint: Kw,
-    pub band: Band,
-}
-
 impl AblaState {
     // No second was accepted yet.
+    #[tactic(auto, unfolding(crate::specs::State::state_of, crate::specs::State::stage_of, crate::specs::Band::lower_before), using(crate::proofs::Steps::fresh))]
     pub fn new() -> Self
         ensures { (result ≡ state_of []) × Ready result }
     {
@@ -46,7 +40,7 @@ impl AblaState {
     }
 
     // A second: setpoint and band, and the state for the next one; or a refusal, and the old state.
-    pub fn step(&mut self, x: LoadSecond) -> Result<AblaValue, Refusal>
+    pub fn step(&mut self, x: LoadSecond) -> Result<BandedSetpoint, Refusal>
         requires { Ready self.old × Within most_power x.working.0 }
         ensures { Stepped self.old x (record { answer = told result; state = self.new }) }
     {
@@ -68,7 +62,7 @@ impl AblaState {
 
     // What second `x` gives, and the state for the next one.
     #[tactic(auto, unfolding(crate::specs::State::accepted_in))]
-    fn advance(&mut self, x: FairSecond) -> AblaValue
+    fn advance(&mut self, x: FairSecond) -> BandedSetpoint
         requires { Ready self.old × (refusal_in self.old x.second ≡ 0) }
         ensures { accepted_in self.old x.second ≡ record { answer = Given result; state = self.new } }
     {
@@ -78,7 +72,7 @@ impl AblaState {
             stage,
             before: x.lower(),
         };
-        AblaValue {
+        BandedSetpoint {
             setpoint: x.second.setpoint,
             band: published(limits),
         }

@@ -1,7 +1,7 @@
 // When a load's second is turned down (02, W10): 31 for its fields, 32 for the working point, 33 for flag and setpoint.
 ghost use Rattle.std.specs.Prelude.{◌≡◌};
 ghost use Rattle.refusals.specs.Refusals.{number_in};
-ghost use Rattle.abla.specs.Refusals.{nonzero, filled, fields_out, point_out, signal_out};
+ghost use Rattle.abla.specs.Refusals.{filled, fields_out, point_out, signal_out};
 ghost use Rattle.abla.specs.State.{Fields, blank_in, holds_in, refusal_in};
 
 use crate::AblaState;
@@ -14,20 +14,13 @@ use refusals::Refusal;
 // The largest minimum consumption and working point in kW, either way.
 pub const MOST_POWER: i32 = 4_000_000;
 
-#[tactic(auto, unfolding(numbers::specs::Bounds::outside))]
-pub fn is_nonzero(k: Kw) -> bool
-    ensures { result ≡ nonzero k.0 }
-{
-    k != Kw(0)
-}
-
 impl LoadSecond {
     // A field other than the awarded power is not 0.
-    #[tactic(auto, unfolding(crate::specs::Refusals::filled))]
+    #[tactic(auto, unfolding(crate::specs::Refusals::filled, numbers::specs::Bounds::outside))]
     fn is_filled(self) -> bool
         ensures { result ≡ filled self }
     {
-        is_nonzero(self.minimum) || self.class != 0 || self.flag != 0 || is_nonzero(self.setpoint)
+        self.minimum != Kw(0) || self.class != 0 || self.flag != 0 || self.setpoint != Kw(0)
     }
 
     #[tactic(auto, unfolding(crate::specs::Refusals::fields_out))]
@@ -53,14 +46,14 @@ impl LoadSecond {
             && (working < self.lowest_point() || in_fifths(self.minimum) < working)
     }
 
-    #[tactic(auto, unfolding(crate::specs::Refusals::signal_out, crate::specs::Refusals::called_out))]
+    #[tactic(auto, unfolding(crate::specs::Refusals::signal_out, crate::specs::Refusals::called_out, numbers::specs::Bounds::outside))]
     fn is_signal_out(self, blank: bool) -> bool
         ensures { result ≡ signal_out blank self }
     {
         if self.is_flagged() {
             blank || self.setpoint.is_outside(Kw(0), Kw(MOST_RESERVE))
         } else {
-            is_nonzero(self.setpoint)
+            self.setpoint != Kw(0)
         }
     }
 }

@@ -1,6 +1,5 @@
 -- The claims hold. Assumes nothing.
-use mathlib.Core.Path.{◌≡◌, refl, ap, ◌∙◌}
-use mathlib.Core.List.{◌∷◌}
+use Rattle.std.proofs.Common.{◌≡◌, refl, ap, ◌∙◌, ◌∷◌}
 use Rattle.power.specs.declared.limits.Limits.{Limits}
 use Rattle.power.specs.Inward.{published_of}
 use Rattle.sheet.specs.Sheet.{first_figures, per_kw}

@@ -1,12 +1,6 @@
 -- FCR's limits. Assumes nothing.
-use mathlib.Core.Path.{◌≡◌, refl, ap, sym, ◌∙◌}
-use mathlib.Core.Bool.{Bool, true, false, cond}
-use mathlib.Core.List.{List, ◌∷◌}
-use Prim.Native.Nat.{ℕ, zero, suc, ◌-◌}
-use native.Mathlib.Omega.{arith}
-use lib.Dec.{leb}
-use lib.IntN.{ℤ, pos, ◌+ℤ◌, ◌-ℤ◌, ◌*ℤ◌}
-use lib.Signed.{quot_z}
+use Rattle.std.proofs.Common.{◌≡◌, refl, ap, sym, ◌∙◌, Bool, true, false, cond, List, ◌∷◌, ℕ, zero, suc, ◌-◌, arith, leb, ℤ, pos, ◌+ℤ◌, ◌-ℤ◌, ◌*ℤ◌}
+use Rattle.std.specs.Int.Signed.{quot_z}
 use Rattle.numbers.specs.Order.{max_z}
 use Rattle.numbers.proofs.Parts.{shows, eq_up, eq_dn, mul_nat}
 use Rattle.power.specs.declared.kilowatts.Kw.{Kw}

@@ -1,11 +1,6 @@
 -- 1,500 of the sheet's grains make one of document 01's: what is worked out in them is 1,500 times as much, and rounds to the same kW. Assumes nothing.
-use mathlib.Core.Path.{◌≡◌, ap, sym, ◌∙◌}
-use native.Mathlib.Nat.{mul_comm}
-use Prim.Native.Nat.{ℕ, ◌*◌, ◌/◌}
-use native.Mathlib.Omega.{arith}
-use lib.Dec.{lit<}
-use lib.IntN.{ℤ, pos, neg_ℤ, ◌+ℤ◌, ◌-ℤ◌, ◌*ℤ◌}
-use lib.Signed.{quot_z}
+use Rattle.std.proofs.Common.{◌≡◌, ap, sym, ◌∙◌, mul_comm, ℕ, ◌*◌, ◌/◌, arith, lit<, ℤ, pos, neg_ℤ, ◌+ℤ◌, ◌-ℤ◌, ◌*ℤ◌}
+use Rattle.std.specs.Int.Signed.{quot_z}
 use Rattle.numbers.specs.Order.{max_z, min_z}
 use Rattle.numbers.proofs.Order.{max_nat, min_nat}
 use Rattle.numbers.proofs.Parts.{shows, add_nat, sub_nat, mul_nat, quot_nat, floor_nat}

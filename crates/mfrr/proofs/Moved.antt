@@ -1,7 +1,5 @@
 -- A call with a multiple of 900 seconds before it, its delivery end as much later. Assumes nothing.
-use mathlib.Core.Path.{◌≡◌, refl}
-use Prim.Native.Nat.{ℕ, ◌+◌, ◌-◌, ◌%◌}
-use native.Mathlib.Omega.{arith}
+use Rattle.std.proofs.Common.{◌≡◌, refl, ℕ, ◌+◌, ◌-◌, ◌%◌, arith}
 use Rattle.sheet.specs.declared.Sheet.{Sheet}
 use Rattle.std.proofs.lemmas.Bool.Decides.{nat_tests}
 use Rattle.mfrr.specs.declared.MfrrState.{MfrrState}

@@ -1,9 +1,5 @@
 -- The sizes of limits in grains, for every sheet in range. Assumes nothing.
-use mathlib.Core.Path.{◌≡◌, sym, subst}
-use Prim.Native.Nat.{ℕ, suc, ◌*◌, ◌/◌, ◌≤◌}
-use native.Mathlib.Nat.{zero-mul, le_trans, mul-le-mul_left, mul-le-mul_right}
-use native.Mathlib.Omega.{arith}
-use lib.IntN.{ℤ, pos, negsuc, ◌*ℤ◌}
+use Rattle.std.proofs.Common.{◌≡◌, sym, subst, ℕ, suc, ◌*◌, ◌/◌, ◌≤◌, zero-mul, le_trans, mul-le-mul_left, mul-le-mul_right, arith, ℤ, pos, negsuc, ◌*ℤ◌}
 use Rattle.numbers.specs.Bounds.{Within}
 use Rattle.numbers.proofs.Fit.{abs_neg}
 use Rattle.power.specs.Units.{grains, most_reserve, most_percent, in_grains, percent_of}

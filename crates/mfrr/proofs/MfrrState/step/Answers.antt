@@ -5,7 +5,7 @@ use Rattle.mfrr.proofs.Steps.{call_passed, Taken, called, not_called, next_of, g
 use Rattle.mfrr.proofs.MfrrState.step.Goals as goal
 use Rattle.mfrr.proofs.MfrrState.step.Goals.{Joined-call, in-Some+in_ok-check_call, in_default}
 
-taken : (c : Joined-call) → Taken c.args.sheet c.args.self.now c.args.t (second_of c.args.call) c.match-call.self
+taken : (c : Joined-call) → Taken c.args.sheet.figures c.args.self.now c.args.t (second_of c.args.call) c.match-call.self
 taken c =
     elim c.match-call.branch [
       | in-Some+in_ok-check_call w ↦ called w.in-Some.is (sym w.in_ok-check_call.ensures) (w.self-is ∙ w.take_in.ensures)
@@ -16,15 +16,15 @@ pub returns-in_err-check_call : goal.returns-in_err-check_call
 unfolding second_of refusal_in
 returns-in_err-check_call c =
     let e : c.from_residual.result ≡ Err c.in_err-check_call.field-0.0 = search rules in
-    rw c.in-Some.is (turned_down c.args.sheet c.requires.0 c.args.self.now c.args.t c.requires.2 c.in_err-check_call.field-0.0 e c.in_err-check_call.ensures)
+    rw c.in-Some.is (turned_down c.args.sheet.figures c.args.sheet.in_range c.args.self.now c.args.t c.requires c.in_err-check_call.field-0.0 e c.in_err-check_call.ensures)
 
 pub take_in-requires : goal.take_in-requires
 take_in-requires c =
     let p = call_passed c.args.self.now c.args.t c.in-Some.call.target c.in-Some.call.end (sym c.in_ok-check_call.ensures) in
-    (c.requires.0, omega (arith, p.end.least), c.requires.2)
+    (omega (arith, p.end.least), c.requires)
 
 pub advance-requires : goal.advance-requires
-advance-requires c = (c.requires.0, next_of c.args.sheet c.requires.0 c.args.self.now c.args.t c.requires.2 (taken c.before))
+advance-requires c = next_of c.args.sheet.figures c.args.sheet.in_range c.args.self.now c.args.t c.requires (taken c.before)
 
 pub returns : goal.returns
-returns c = given c.args.sheet c.requires.0 c.args.self.now c.args.t c.requires.2 (taken c.before.before) c.advance.ensures
+returns c = given c.args.sheet.figures c.args.sheet.in_range c.args.self.now c.args.t c.requires (taken c.before.before) c.advance.ensures

@@ -1,7 +1,6 @@
 -- The product and the quotient fit, so that what is read back of each is itself.
-use Rattle.std.proofs.Common.{ℕ, ◌*◌, ◌≤◌, ℤ, pos, ◌*ℤ◌, w32, w64}
-use lib.Signed.{quot_z}
-use mir.Val.{SFits}
+use Rattle.std.proofs.Common.{ℕ, ◌*◌, ◌≤◌, ℤ, pos, ◌*ℤ◌, w32, w64, SFits}
+use Rattle.std.specs.Int.Signed.{quot_z}
 use Rattle.numbers.specs.Bounds.{Within}
 use Rattle.numbers.proofs.Fit.{fit}
 use Rattle.numbers.proofs.Read.{is, same, carry}
