@@ -8,5 +8,5 @@ use Rattle.sharing.proofs.plant_row.error_of.Goals as goal
 pub less_setpoint-requires : goal.less_setpoint-requires
 less_setpoint-requires c =
     let a = c.args in
-    let h = error_within (2 * most_shared) a.due.0 a.fcr a.afrr a.mfrr c.requires.0 c.requires.1 in
+    let h = error_within (2 * most_shared) a.due.0 a.kinds.fcr a.kinds.afrr a.kinds.mfrr c.requires.0 c.requires.1 in
     rw (c.less_setpoint-past_afrr.ensures, c.less_setpoint-past_fcr.ensures) (search fit)
