@@ -7,7 +7,7 @@ use Rattle.plant.proofs.Steps.{CallPassed, KindsGiven, record_passed, told_left,
 use Rattle.plant.proofs.PlantState.second_of.Goals as goal
 use Rattle.plant.proofs.PlantState.second_of.Goals.{In_ok-value, After-kinds_of-kinds}
 
-called : (c : In_ok-value) → CallPassed c.args.sheet c.args.self.now c.args.x c.in_ok-value.value c.step.new.self c.args.added.measured.0 c.args.added.point.0
+called : (c : In_ok-value) → CallPassed c.args.sheet.figures c.args.self.now c.args.x c.in_ok-value.value c.step.new.self c.args.added.measured.0 c.args.added.point.0
 called c = call_passed (record_passed c.args.added.within c.requires) (rw c.call_of.ensures at c.step.ensures) (ap told c.in_ok-value.was)
 
 pub returns-in_err-value : goal.returns-in_err-value
@@ -27,7 +27,6 @@ returns-in_err-check_off c =
 pub step-fcr_band-requires : goal.step-fcr_band-requires
 step-fcr_band-requires c =
     let q = record_passed c.args.added.within c.requires in (
-      q.ready.sheet,
       q.ready.fcr,
       record {
         setpoint_range = rw c.setpoints_of-setpoints.ensures (setpoint_within _ c.args.x.deviation.0 q.passed.fcr_held_is.range);
@@ -39,9 +38,9 @@ step-fcr_band-requires c =
 pub step-afrr_band-requires : goal.step-afrr_band-requires
 step-afrr_band-requires c =
     let q = record_passed c.args.added.within c.requires in
-    (q.ready.sheet, q.ready.afrr, rw c.afrr_second.ensures (afrr_second_fair c.args.self.now.seconds c.args.x q.passed))
+    (q.ready.afrr, rw c.afrr_second.ensures (afrr_second_fair c.args.self.now.seconds c.args.x q.passed))
 
-kinds_given : (c : After-kinds_of-kinds) → KindsGiven c.args.sheet c.args.self.now c.args.x c.in_ok-value.value c.setpoints_of-setpoints.result (record { band = c.step-fcr_band.result; state = c.step-fcr_band.new.self }) (record { band = c.step-afrr_band.result; state = c.step-afrr_band.new.self }) c.kinds_of-kinds.result
+kinds_given : (c : After-kinds_of-kinds) → KindsGiven c.args.sheet.figures c.args.self.now c.args.x c.in_ok-value.value c.setpoints_of-setpoints.result (record { band = c.step-fcr_band.result; state = c.step-fcr_band.new.self }) (record { band = c.step-afrr_band.result; state = c.step-afrr_band.new.self }) c.kinds_of-kinds.result
 kinds_given c =
     record {
       setpoints = c.setpoints_of-setpoints.ensures;
