@@ -22,7 +22,7 @@ use Rattle.afrr.specs.declared.AfrrState.{AfrrState}
 use Rattle.afrr.specs.State as afrr
 use Rattle.afrr.specs.State.{AfrrStep}
 use Rattle.mfrr.specs.declared.MfrrState.{MfrrState}
-use Rattle.mfrr.specs.declared.MfrrValue.{MfrrValue}
+use Rattle.power.specs.declared.limits.BandedSetpoint.{BandedSetpoint}
 use Rattle.mfrr.specs.Signal as mfrr-signal
 use Rattle.mfrr.specs.Refusals.{call_rules}
 use Rattle.mfrr.specs.State as mfrr
@@ -127,7 +127,7 @@ kinds_step_in sh st x s b next m w =
     step_by (off_number (bits_of x.status) (setpoints_with x s)) st (accepted_in sh st x (kinds_in sh st x s b) next m w)
 
 -- 8 to 10, which mFRR's step gives
-abbrev pub given_in : Sheet → Answer MfrrValue → MfrrState → PlantState → Record → ℤ → ℤ → PlantStep
+abbrev pub given_in : Sheet → Answer BandedSetpoint → MfrrState → PlantState → Record → ℤ → ℤ → PlantStep
 given_in sh (answer.Given v) next st x m w = kinds_step_in sh st x v.setpoint v.band next m w
 given_in sh (answer.Refused n) next st x m w = refused_in st n
 
