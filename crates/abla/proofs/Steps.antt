@@ -5,7 +5,7 @@ use Rattle.numbers.proofs.Fit.{fit}
 use Rattle.refusals.specs.declared.Refusal.{Refusal}
 use Rattle.refusals.specs.Refusals.{Given, Refused, told}
 use Rattle.refusals.specs.Refusals as refusals
-use Rattle.refusals.proofs.Laws.{Positive, positive, number_positive, not_zero}
+use Rattle.refusals.proofs.Laws.{Positive, positive, number_positive, refused_not_zero}
 use Rattle.power.specs.declared.limits.BandedSetpoint.{BandedSetpoint}
 use Rattle.power.specs.Units.{kw}
 use Rattle.power.specs.Inward.{published_of}
@@ -69,7 +69,7 @@ module _ (s : AblaState) (ok : Ready s) (x : LoadSecond) where
         is = rw (← q) (refuses s _ (number_positive e));
         number = q;
         given = λ k. absurd (cc);
-        refused = λ {n = n} k z. let m : refusals.number_of e ≡ n = cc in not_zero e (m ∙ z);
+        refused = λ k z. refused_not_zero e k z;
         ready = ok;
       })
 

@@ -1,8 +1,10 @@
 -- A refusal's number is never 0, so that 0 stands for none, and it names the refusal.
-use Rattle.std.proofs.Common.{◌≡◌, ℕ, suc, arith, refl}
+use Rattle.std.proofs.Common.{◌≡◌, ℕ, suc, arith, refl, ◌∙◌, Result}
+use Rattle.std.specs.Result.{IsErrAnd}
+use Rattle.std.proofs.lemmas.Result.{err_from_is_err_and}
 use Rattle.refusals.specs.declared.Refusal.{Refusal}
 use Rattle.refusals.specs.declared.Refusal.TheVariants as refusal
-use Rattle.refusals.specs.Refusals.{number_of, Refused, answer_by}
+use Rattle.refusals.specs.Refusals.{number_of, Answer, Refused, answer_by, told}
 
 -- a number of a refusal, less one
 pub data Positive : ℕ → Type 0 where
@@ -51,3 +53,11 @@ not_zero e = never_zero (number_positive e)
 
 pub refused_by : {A : Type 0} {n : ℕ} (x : A) → Positive n → answer_by n x ≡ Refused n
 refused_by x (positive n) = refl
+
+-- what a refusal says is no 0
+pub refused_not_zero : {A : Type 0} (e : Refusal) {n : ℕ} → ◌≡◌ {A = Answer A} (Refused (number_of e)) (Refused n) → n ≡ 0 → ⊥
+refused_not_zero e {n} k z = let m : number_of e ≡ n = cc in not_zero e (m ∙ z)
+
+-- what is said where a `?` returns
+pub told_left : {A : Type 0} (r : Result A Refusal) (e : Refusal) → IsErrAnd r (λ y. y ≡ e) → told r ≡ Refused (number_of e)
+told_left r e h = let p = err_from_is_err_and r h in rw (p.1, p.2)

@@ -3,7 +3,8 @@ use Rattle.std.proofs.Common.{ap}
 use Rattle.refusals.specs.Refusals.{told}
 use Rattle.fcr.proofs.Range.{setpoint_within}
 use Rattle.plant.proofs.Past.{afrr_second_fair}
-use Rattle.plant.proofs.Steps.{CallPassed, KindsGiven, record_passed, told_left, call_refused, call_passed, off_refused, shareable, accepted}
+use Rattle.refusals.proofs.Laws.{told_left}
+use Rattle.plant.proofs.Steps.{CallPassed, KindsGiven, record_passed, call_refused, call_passed, off_refused, shareable, accepted}
 use Rattle.plant.proofs.PlantState.second_of.Goals as goal
 use Rattle.plant.proofs.PlantState.second_of.Goals.{In_ok-value, After-kinds_of-kinds}
 

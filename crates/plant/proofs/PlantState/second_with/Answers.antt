@@ -1,5 +1,6 @@
 -- Each early return is a refusal, in the order of the numbers.
-use Rattle.plant.proofs.Steps.{told_left, read_refused, number_refused, number_stepped}
+use Rattle.refusals.proofs.Laws.{told_left}
+use Rattle.plant.proofs.Steps.{read_refused, number_refused, number_stepped}
 use Rattle.plant.proofs.PlantState.second_with.Goals as goal
 
 pub returns-in_err-x : goal.returns-in_err-x
