@@ -7,10 +7,12 @@ use native.Mathlib.Omega.{arith}
 use lib.ListN.{length, take, drop, length-append, length-drop}
 use lib.Seq.{take_at, drop_at, drop-drop, take-add, length-take-le, take_all, take-append-le, drop-append-le, take-append-add}
 use borrow.Rule.Slice.PartMut.{put_mid, post_of}
-use Rattle.codec.specs.Put.{Put}
-use Rattle.codec.proofs.Puts.{front, both, loosen, sized, none}
+use Rattle.std.specs.List.{copy_within}
+use Rattle.codec.specs.declared.lent.Lent.{Lent}
+use Rattle.codec.specs.Lent.{HasRoom, Grown}
+use Rattle.codec.proofs.Lents.{both, loosen, none as nothing_put}
 use Rattle.choose_meter.specs.Records.{record_size, said_in}
-use Rattle.choose_meter.specs.Printed.{line_text, lines_of, printed, whole_text, rest_of, told, line_width, piece_size, piece_room, Kept}
+use Rattle.choose_meter.specs.Printed.{line_text, lines_of, printed, whole_text, rest_of, told, line_width, piece_size, piece_room}
 use Rattle.choose_meter.specs.Claims.{joined}
 
 -- ---- record after record
@@ -49,32 +51,32 @@ ahead (suc q) s t h =
 
 -- ---- into a buffer
 
--- the lines of the first k records of s are put, where the buffer was b and is e, and `rest` comes after them
-pub record SoFar (k : ℕ) (s rest b e : List ℕ) (at : ℕ) : Type 0 where
+-- the lines of the first k records of s are put, where the lent buffer was t and is u, and `rest` comes after them
+pub record SoFar (k : ℕ) (s rest : List ℕ) (t u : Lent) : Type 0 where
   pub within : k * record_size ≤ length s
   pub stands : rest ≡ drop (k * record_size) s
-  pub put : Put (k * line_width) b e 0 at (lines_of k s)
+  pub grown : Grown (k * line_width) t u (lines_of k s)
 
-pub begin : (s b : List ℕ) → SoFar 0 s s b b 0
+pub begin : (s : List ℕ) (t : Lent) → HasRoom piece_room t → SoFar 0 s s t t
 unfolding lines_of
-begin s b = record { within = zero-le; stands = refl; put = none b 0 zero-le }
+begin s t h = record { within = zero-le; stands = refl; grown = nothing_put t (omega arith) }
 
-module _ {k at : ℕ} {s rest b c : List ℕ} (f : SoFar k s rest b c at) where
+module _ {k : ℕ} {s rest : List ℕ} {t u : Lent} (f : SoFar k s rest t u) where
   left : length rest ≡ length s - k * record_size
   left = ap length f.stands ∙ length-drop (k * record_size) s
 
   -- room for one more line
-  pub room : record_size ≤ length rest → length s ≤ piece_size → at + line_width ≤ piece_room
-  room h i = omega (arith, left, f.within, f.put.most)
+  pub room : record_size ≤ length rest → length s ≤ piece_size → HasRoom piece_room t → HasRoom line_width u
+  room h i r = omega (arith, left, f.within, f.grown.put.most, f.grown.long)
 
   -- one more line
   pub onward :
-      {r : ℕ} {e : List ℕ} (part : List ℕ) {after : List ℕ} →
+      {v : Lent} (part : List ℕ) {after : List ℕ} →
       rest ≡ part ++ after →
       length part ≡ record_size →
-      Put line_width c e at r (line_text (said_in part)) →
-      SoFar (k + 1) s after b e r
-  onward {r} {e} part {after} cut size g =
+      Grown line_width u v (line_text (said_in part)) →
+      SoFar (k + 1) s after t v
+  onward {v} part {after} cut size g =
       let first : part ≡ take record_size (drop (k * record_size) s) = sym (take_at part after record_size size) ∙ ap (take record_size) (sym cut ∙ f.stands) in
       let line = ap (λ (p : List ℕ). line_text (said_in p)) first ∙ sym (one (drop (k * record_size) s)) in
       record {
@@ -84,11 +86,11 @@ module _ {k at : ℕ} {s rest b c : List ℕ} (f : SoFar k s rest b c at) where
             ∙ ap (drop record_size) (sym cut ∙ f.stands)
             ∙ drop-drop record_size (k * record_size) s
             ∙ ap (λ (n : ℕ). drop n s) (next k);
-        put =
+        grown =
             loosen (wide k)
-            (subst (λ (l : List ℕ). Put (k * line_width + line_width) b e 0 r l)
+            (subst (Grown (k * line_width + line_width) t v)
             (ap (λ (l : List ℕ). lines_of k s ++ l) line ∙ sym (split k 1 s))
-            (both f.put g));
+            (both f.grown g));
       }
     where
       next : (k : ℕ) → k * record_size + record_size ≡ (k + 1) * record_size
@@ -98,11 +100,11 @@ module _ {k at : ℕ} {s rest b c : List ℕ} (f : SoFar k s rest b c at) where
       wide k = omega arith
 
   -- the last of them
-  pub all : length rest < record_size → length s ≤ piece_size → Put piece_room b c 0 at (whole_text s)
+  pub all : length rest < record_size → length s ≤ piece_size → Grown piece_room t u (whole_text s)
   unfolding whole_text
   all h i =
       let count : k ≡ length s / record_size = omega (arith, left, f.within) in
-      loosen (omega (arith, count)) (subst (λ (q : ℕ). Put (k * line_width) b c 0 at (lines_of q s)) count f.put)
+      loosen (omega (arith, count)) (subst (λ (q : ℕ). Grown (k * line_width) t u (lines_of q s)) count f.grown)
 
 -- n bytes of `new`, which stand in b from `from` on
 pub received : (from k n : ℕ) (b new : List ℕ) → from ≤ length b → n ≤ length new → take (from + n) (put_mid from k b new) ≡ take from b ++ take n new
@@ -113,37 +115,24 @@ received from k n b new h i =
 
 -- ---- what is left of a piece
 
--- the bytes from q to n, in two ways
-part_is : (q n : ℕ) (b : List ℕ) → q ≤ n → n ≤ length b → take (n - q) (drop q b) ≡ drop q (take n b)
-part_is q n b h k =
-    sym (drop_at (take q b) (take (n - q) (drop q b)) q (length-take-le q b (omega arith)))
-    ∙ ap (drop q) (sym (take-add q (n - q) b) ∙ ap (λ (m : ℕ). take m b) (back q n h))
+-- the bytes after the whole records of the first n, moved to the front
+pub rest_is : (n : ℕ) (b : List ℕ) → n ≤ length b → take (n - n / record_size * record_size) (copy_within b (n / record_size * record_size) n 0) ≡ rest_of (take n b)
+unfolding rest_of
+rest_is n b h =
+    let q = n / record_size * record_size in
+    let part = take (n - q) (drop q b) in
+    take_at part (drop (0 + (n - q)) b) (n - q) (length-take-le (n - q) (drop q b) (rw length-drop (omega arith)))
+    ∙ sym (drop_at (take q b) part q (length-take-le q b (omega arith)))
+    ∙ ap (drop q) (sym (take-add q (n - q) b) ∙ ap (λ (m : ℕ). take m b) (back q n (omega arith)))
+    ∙ ap (λ (m : ℕ). drop (m / record_size * record_size) (take n b)) (sym (length-take-le n b h))
   where
     back : (q n : ℕ) → q ≤ n → q + (n - q) ≡ n
     back q n h = omega arith
 
-part_length : (q n : ℕ) (b : List ℕ) → q ≤ n → n ≤ length b → length (take (n - q) (drop q b)) ≡ n - q
-part_length q n b h k = length-take-le (n - q) (drop q b) (rw length-drop (omega arith))
-
--- a part that went by way of another buffer
-pub moved :
-    (q n : ℕ) (b : List ℕ) {m k f r : ℕ} {z p e : List ℕ} →
-    q ≤ n →
-    n ≤ length b →
-    Put m z p 0 f (take (n - q) (drop q b)) →
-    Put k b e 0 r (take f p) →
-    Kept b e q n r
-moved q n b {r = r} {e = e} h k f g =
-    subst (λ (l : List ℕ). Put (n - q) b e 0 r l) (front f ∙ part_is q n b h k) (sized (le_of_eq (ap length (front f) ∙ part_length q n b h k)) g)
-
-pub rest_is : (n : ℕ) (b : List ℕ) → n ≤ length b → drop (n / record_size * record_size) (take n b) ≡ rest_of (take n b)
-unfolding rest_of
-rest_is n b h = ap (λ (m : ℕ). drop (m / record_size * record_size) (take n b)) (sym (length-take-le n b h))
-
 -- the end of the input
-pub nothing : (s : List ℕ) → length s ≡ 0 → [] ≡ printed s
+pub nothing : (t : Lent) (s : List ℕ) → HasRoom line_width t → length s ≡ 0 → Grown line_width t t (printed s)
 unfolding printed lines_of
-nothing s e = ap (λ (n : ℕ). lines_of ((n + 63) / record_size) s) (sym e)
+nothing t s h e = subst (Grown line_width t t) (ap (λ (n : ℕ). lines_of ((n + 63) / record_size) s) (sym e)) (loosen (omega arith) (nothing_put t (omega arith)))
 
 pub cut_short : (s : List ℕ) → 0 < length s → length s < record_size → line_text (said_in s) ≡ printed s
 unfolding printed

@@ -1,6 +1,5 @@
 -- What the program prints: from all the bytes of standard input to all those of standard output, and the same as the bytes come.
 use Rattle.std.specs.Prelude.{ℕ, zero, suc, ◌+◌, ◌*◌, ◌/◌, ◌-◌, ◌<◌, List, [], ◌∷◌, ◌++◌, length, take, drop}
-use Rattle.codec.specs.Put.{Put}
 use Rattle.line.specs.Text.{ascii, digits, field}
 use Rattle.line.specs.Widths.{field_width}
 use Rattle.meters.specs.Meters.{Said, deviation, refused}
@@ -49,13 +48,3 @@ piece_size = piece_records * record_size
 
 abbrev pub piece_room : ℕ
 piece_room = piece_records * line_width
-
--- the bytes of b from `from` to `end` are put at its front, r of them
-abbrev pub Kept : List ℕ → List ℕ → ℕ → ℕ → ℕ → Type 0
-Kept b e from end r = Put (end - from) b e 0 r (drop from (take end b))
-
--- the first n bytes of b are taken: o and p are the buffer of the text before and after, and the bytes after the whole records come to the front
-pub record Takes (b e : List ℕ) (n : ℕ) (o p : List ℕ) (used filled : ℕ) : Type 0 where
-  pub text : Put piece_room o p 0 used (whole_text (take n b))
-  pub kept : Put record_size b e 0 filled (rest_of (take n b))
-  pub short : filled < record_size

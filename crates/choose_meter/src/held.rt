@@ -3,7 +3,8 @@ ghost use Rattle.std.specs.Prelude.{◌<◌, ◌≡◌, ◌++◌, List, [], ℕ,
 ghost use Rattle.choose_meter.specs.Records.{record_size};
 ghost use Rattle.choose_meter.specs.Printed.{printed};
 
-use crate::lines;
+use crate::lines::{PIECE, ROOM, keep, put_lines, put_rest};
+use codec::Lent;
 use sending::{Failure, Session, receive, send};
 use std::io::{Read, Write};
 use std::marker::Model;
@@ -11,9 +12,9 @@ use std::marker::Model;
 // The bytes that are held at once, of which the first `filled` are a record begun, and room for their lines.
 #[derive(Drop)]
 pub(crate) struct Held {
-    bytes: [u8; lines::PIECE],
+    bytes: [u8; PIECE],
     filled: usize,
-    out: [u8; lines::ROOM],
+    out: [u8; ROOM],
 }
 
 // Seen as the bytes of the record begun.
@@ -30,9 +31,9 @@ impl Held {
         ensures { result ≡ [] }
     {
         Held {
-            bytes: [0; lines::PIECE],
+            bytes: [0; PIECE],
             filled: 0,
-            out: [0; lines::ROOM],
+            out: [0; ROOM],
         }
     }
 }
@@ -46,15 +47,18 @@ impl Session for Held {
         if n == 0 {
             return Ok(false);
         }
-        let (used, filled) = lines::take(&mut self.bytes, filled + n, &mut self.out);
+        let mut lines = Lent::new(&mut self.out);
+        put_lines(&mut lines, &self.bytes[..filled + n]);
+        send(output, lines.filled())?;
+        let filled = keep(&mut self.bytes, filled + n);
         self.filled = filled;
-        send(output, &self.out[..used])?;
         Ok(true)
     }
 
     // The line of a record cut short.
     fn finish<W: Write>(&mut self, output: &mut W) -> Result<(), Failure> {
-        let end = lines::put_rest(&mut self.out, &self.bytes[..self.filled]);
-        send(output, &self.out[..end])
+        let mut line = Lent::new(&mut self.out);
+        put_rest(&mut line, &self.bytes[..self.filled]);
+        send(output, line.filled())
     }
 }

@@ -1,11 +1,12 @@
 // Lines into a lent buffer: one answer's, those of the whole records of a piece, and that of a record cut short (specs/Printed.antt).
-ghost use Rattle.std.specs.Prelude.{◌≡◌, ◌+◌, ◌≤◌, ◌<◌, length};
-ghost use Rattle.codec.specs.Put.{Put};
+ghost use Rattle.std.specs.Prelude.{◌≡◌, ◌≤◌, ◌<◌, length, take};
+ghost use Rattle.codec.specs.Lent.{HasRoom, Grown};
 ghost use Rattle.meters.specs.Meters.{says};
 ghost use Rattle.choose_meter.specs.Records.{record_size, said_in};
-ghost use Rattle.choose_meter.specs.Printed.{line_text, printed, whole_text, line_width, piece_size, piece_room, Kept, Takes};
+ghost use Rattle.choose_meter.specs.Printed.{line_text, printed, whole_text, rest_of, line_width, piece_size, piece_room};
 
 use crate::records;
+use codec::Lent;
 use power::Millihertz;
 use refusals::Refusal;
 
@@ -16,69 +17,57 @@ pub(crate) const ROOM: usize = RECORDS * 14;
 
 const RECORDS: usize = 256;
 
-fn put_answer(buf: &mut [u8], at: usize, answer: Result<Millihertz, Refusal>) -> usize
-    requires { at + line_width ≤ length buf.old }
-    ensures { Put line_width buf.old buf.new at result (line_text (says answer)) }
+fn put_answer(lent: &mut Lent, answer: Result<Millihertz, Refusal>)
+    requires { HasRoom line_width lent.old }
+    ensures { Grown line_width lent.old lent.new (line_text (says answer)) }
 {
-    let at = match answer {
+    match answer {
         Ok(f) => {
-            let at = codec::put_byte(buf, at, b'0');
-            line::put_field(buf, at, f)
+            lent.put_byte(b'0');
+            line::put_field(lent, f);
         }
-        Err(refusal) => line::put_count(buf, at, u32::from(refusal.number())),
-    };
-    codec::put_byte(buf, at, b'\n')
+        Err(refusal) => line::put_count(lent, u32::from(refusal.number())),
+    }
+    lent.put_byte(b'\n');
 }
 
 // The line of a record of any bytes.
-fn put_line(buf: &mut [u8], at: usize, bytes: &[u8]) -> usize
-    requires { at + line_width ≤ length buf.old }
-    ensures { Put line_width buf.old buf.new at result (line_text (said_in bytes.now)) }
+fn put_line(lent: &mut Lent, bytes: &[u8])
+    requires { HasRoom line_width lent.old }
+    ensures { Grown line_width lent.old lent.new (line_text (said_in bytes.now)) }
 {
-    put_answer(buf, at, records::answer_to(bytes))
+    put_answer(lent, records::answer_to(bytes));
 }
 
 // The lines of the whole records.
-fn put_lines(buf: &mut [u8], bytes: &[u8]) -> usize
-    requires { (length bytes.now ≤ piece_size) × (piece_room ≤ length buf.old) }
-    ensures { Put piece_room buf.old buf.new 0 result (whole_text bytes.now) }
+pub(crate) fn put_lines(lent: &mut Lent, bytes: &[u8])
+    requires { (length bytes.now ≤ piece_size) × HasRoom piece_room lent.old }
+    ensures { Grown piece_room lent.old lent.new (whole_text bytes.now) }
 {
-    let mut at = 0;
     for record in bytes.chunks_exact(records::SIZE) {
-        at = put_line(buf, at, record);
+        put_line(lent, record);
     }
-    at
 }
 
-// The bytes from `from` to `end` are put at the front, by way of `part`; how many they are.
-fn keep(bytes: &mut [u8], from: usize, end: usize) -> usize
-    requires { (from ≤ end) × (end ≤ length bytes.old) × (end < from + record_size) }
-    ensures { Kept bytes.old bytes.new from end result }
-{
-    let mut part = [0; records::SIZE];
-    let filled = codec::put_bytes(&mut part, 0, &bytes[from..end]);
-    codec::put_bytes(bytes, 0, &part[..filled])
-}
-
-// The first n bytes are taken: how many bytes of text are in the buffer, and how many of a record begun at the front.
+// Of the first n bytes, those after the whole records come to the front; how many they are.
 #[tactic(auto, using(crate::proofs::Laws::rest_is))]
-pub(crate) fn take(bytes: &mut [u8], n: usize, buf: &mut [u8]) -> (usize, usize)
-    requires { (n ≤ length bytes.old) × (n ≤ piece_size) × (piece_room ≤ length buf.old) }
-    ensures { Takes bytes.old bytes.new n buf.old buf.new result.0 result.1 }
+pub(crate) fn keep(bytes: &mut [u8], n: usize) -> usize
+    requires { n ≤ length bytes.old }
+    ensures begun { take result bytes.new ≡ rest_of (take n bytes.old) }
+    ensures short { result < record_size }
 {
-    let used = put_lines(buf, &bytes[..n]);
-    let filled = keep(bytes, n / records::SIZE * records::SIZE, n);
-    (used, filled)
+    let whole = n / records::SIZE * records::SIZE;
+    bytes.copy_within(whole..n, 0);
+    n - whole
 }
 
 // The line of a record that the input ends in; nothing where it ends before one.
-#[tactic(auto, using(crate::proofs::Laws::nothing, crate::proofs::Laws::cut_short))]
-pub(crate) fn put_rest(buf: &mut [u8], bytes: &[u8]) -> usize
-    requires { (length bytes.now < record_size) × (piece_room ≤ length buf.old) }
-    ensures { Put line_width buf.old buf.new 0 result (printed bytes.now) }
+#[tactic(auto, using(crate::proofs::Laws::cut_short))]
+pub(crate) fn put_rest(lent: &mut Lent, bytes: &[u8])
+    requires { (length bytes.now < record_size) × HasRoom line_width lent.old }
+    ensures { Grown line_width lent.old lent.new (printed bytes.now) }
 {
-    if bytes.is_empty() {
-        return 0;
+    if !bytes.is_empty() {
+        put_line(lent, bytes);
     }
-    put_line(buf, 0, bytes)
 }

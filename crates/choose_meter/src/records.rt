@@ -21,8 +21,8 @@ fn reading_of(form: u8, value: f32) -> Reading
 }
 
 #[tactic(auto, unfolding(crate::specs::Records::meter_at))]
-fn meter_at(s: &[u8], at: usize) -> Meter
-    requires { at + meter_size ≤ length s.now }
+fn meter_at(s: &[u8; SIZE], at: usize) -> Meter
+    requires { at + meter_size ≤ record_size }
     ensures { result ≡ meter_at s.now at }
 {
     let value = meters::of_bits(codec::read_u32(s, at + 1));
@@ -33,8 +33,7 @@ fn meter_at(s: &[u8], at: usize) -> Meter
 }
 
 // The meters that can count.
-fn first_four(s: &[u8]) -> [Meter; meters::MOST_METERS]
-    requires { record_size ≤ length s.now }
+fn first_four(s: &[u8; SIZE]) -> [Meter; meters::MOST_METERS]
     ensures { result ≡ take most_meters (meters_in s.now) }
 {
     [
@@ -49,9 +48,9 @@ fn first_four(s: &[u8]) -> [Meter; meters::MOST_METERS]
 pub(crate) fn answer_to(s: &[u8]) -> Result<Millihertz, Refusal>
     ensures { says result ≡ said_in s.now }
 {
-    if s.len() != SIZE {
+    let Ok(s) = <&[u8; SIZE]>::try_from(s) else {
         return Err(Refusal::Length);
-    }
+    };
     let places = first_four(s);
     let Some(meters) = places.get(..usize::from(s[0])) else {
         return Err(Refusal::MeterCount);

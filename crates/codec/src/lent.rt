@@ -1,5 +1,5 @@
 // A lent buffer that fills from its front: what is put stands before `at`, where the next byte goes.
-ghost use Rattle.std.specs.Prelude.{◌≡◌, ◌<◌, [], ◌∷◌, length};
+ghost use Rattle.std.specs.Prelude.{◌≡◌, ◌≤◌, ◌<◌, [], ◌∷◌, length, take};
 ghost use Rattle.codec.specs.Little.{le2, le4};
 ghost use Rattle.codec.specs.Lent.{HasRoom, Grown};
 
@@ -16,6 +16,14 @@ impl<'a> Lent<'a> {
         ensures start { result.at ≡ 0 }
     {
         Lent { buf, at: 0 }
+    }
+
+    // What is put.
+    pub fn filled(&self) -> &[u8]
+        requires { self.now.at ≤ length self.now.buf.now }
+        ensures { result.now ≡ take self.now.at self.now.buf.now }
+    {
+        &self.buf[..self.at]
     }
 
     pub fn put_byte(&mut self, b: u8)

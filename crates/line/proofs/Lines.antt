@@ -3,16 +3,19 @@ use Rattle.std.proofs.Common.{◌≡◌, ℕ, ◌≤◌, cond, ltb, List, ◌++�
 use borrow.Author.Tests.{le-ltb}
 use Rattle.refusals.specs.declared.Refusal.{Refusal}
 use Rattle.refusals.specs.Refusals.{Given, told}
-use Rattle.codec.specs.Put.{Put}
+use Rattle.codec.specs.declared.lent.Lent.{Lent}
+use Rattle.codec.specs.Lent.{Grown}
 use Rattle.line.specs.Lined.{Lined}
 
 -- what `check_room` answers where it turns nothing down
 room : (n least : ℕ) → ◌≡◌ {A = ℕ} 0 (cond (ltb n least) 22 0) → least ≤ n
 room n least h = grind arith
 
-pub written : {least m r : ℕ} {b e text : List ℕ} → ◌≡◌ {A = ℕ} 0 (cond (ltb (length b) least) 22 0) → m ≤ least → Put m b e 0 r text → Lined least b e (Ok r) text
-written {least} {b = b} {text = text} h m f =
+-- the buffer lent had the bytes b, and e are those that it has at the end
+pub written : {least m : ℕ} {b e text : List ℕ} {t u : Lent} → ◌≡◌ {A = ℕ} 0 (cond (ltb (length b) least) 22 0) → m ≤ least → t.buf.now ≡ b → t.at ≡ 0 → e ≡ u.buf.now → Grown m t u text → Lined least b e (Ok u.at) text
+written {least} {b = b} {text = text} {t} h m old start new g =
     let roomy = le-ltb (length b) least (room (length b) least h) in
+    let f = rw (old, start, ← new) at g.put in
     record {
       answer = rw roomy (ap Given (f.next ∙ zero-add (length text)));
       buffer = rw roomy (f.bytes ∙ ap (λ (n : ℕ). text ++ drop n b) (zero-add (length text)));

@@ -4,7 +4,8 @@ use Rattle.std.specs.Fmt.{decimal as printed, signed_decimal}
 use Rattle.std.proofs.lemmas.Fmt.{AppendsLastDigit, decimal_from_appends, length-decimal-le, length-decimal-le_succ}
 use lib.Signed.{nat_abs-le}
 use borrow.Author.Tests.{lt-ltb, le-ltb}
-use Rattle.codec.specs.Put.{Put}
+use Rattle.codec.specs.declared.lent.Lent.{Lent}
+use Rattle.codec.specs.Lent.{Grown}
 use Rattle.line.specs.Text.{digits_in, digits, decimal}
 
 last_digit : AppendsLastDigit digits_in
@@ -21,7 +22,7 @@ signed_is (pos n) h = printed_is n h
 signed_is (negsuc n) h = ap (λ (l : List ℕ). 45 ∷ l) (printed_is _ h)
 
 -- what is put, printed by the library, is the text of z where z is the number that it was given
-pub shown : {m at r : ℕ} {b e : List ℕ} {y : ℤ} (z : ℤ) → Put m b e at r (signed_decimal y) → y ≡ z → SFits w64 z → Put m b e at r (decimal z)
+pub shown : {m : ℕ} {t u : Lent} {y : ℤ} (z : ℤ) → Grown m t u (signed_decimal y) → y ≡ z → SFits w64 z → Grown m t u (decimal z)
 shown z f i h = rw (i, signed_is z (omega (arith, nat_abs-le z h.sfits))) at f
 
 -- below 10 ^ k, k turns are enough: so a large number's digits compute

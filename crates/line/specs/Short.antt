@@ -7,7 +7,15 @@ use Rattle.row.specs.declared.side.SideCount.{SideCount}
 use Rattle.row.specs.declared.side.KindCounts.{KindCounts}
 use Rattle.row.specs.declared.side.PlantCounts.{PlantCounts}
 use Rattle.row.specs.Side.{side_of}
+use Rattle.line.specs.declared.short_lines.Kind.{Kind}
+use Rattle.line.specs.declared.short_lines.Kind.TheVariants.{Fcr, Afrr, Mfrr}
 use Rattle.line.specs.Text.{ascii, digits}
+
+-- a kind's name, after a space
+abbrev pub name_of : Kind → List ℕ
+name_of Fcr = ascii " FCR"
+name_of Afrr = ascii " aFRR"
+name_of Mfrr = ascii " mFRR"
 
 -- ---- a second
 

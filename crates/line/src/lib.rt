@@ -15,9 +15,18 @@ ghost use Rattle.refusals.specs.Refusals.{number_in};
 pub use book_lines::{refusal_line, second_line, sum_line};
 pub use number::{Figure, put_count, put_field};
 use refusals::Refusal;
+use row::Row;
 pub use row_lines::{ROW_ROOM, plant_line};
 pub use share_lines::plant_shares;
 pub use short_lines::{plant_counts, plant_short};
+
+// A plant's row in a second, with the letter that its lines name it by.
+#[derive(Clone, Copy)]
+pub struct PlantSecond {
+    pub second: u32,
+    pub letter: u8,
+    pub row: Row,
+}
 
 // Turns down a buffer of fewer than `least` bytes.
 fn check_room(buf: &[u8], least: usize) -> Result<(), Refusal>

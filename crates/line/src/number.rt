@@ -1,9 +1,10 @@
 // Numbers in decimal.
-ghost use Rattle.std.specs.Prelude.{◌≡◌, ◌+◌, ◌≤◌, ℤ, length};
-ghost use Rattle.codec.specs.Put.{Put};
+ghost use Rattle.std.specs.Prelude.{◌≡◌, ℤ};
+ghost use Rattle.codec.specs.Lent.{HasRoom, Grown};
 ghost use Rattle.line.specs.Text.{digits, field, unsigned};
 ghost use Rattle.line.specs.Widths.{count_width, field_width, unsigned_width};
 
+use codec::Lent;
 use itoa::{Buffer, Integer};
 use power::{Kw, Millihertz};
 
@@ -32,35 +33,35 @@ impl Figure for Millihertz {
 }
 
 // As the library prints it.
-pub(crate) fn put_number<N: Integer>(buf: &mut [u8], at: usize, n: N) -> usize
-    requires { at + N.MAX_STR_LEN ≤ length buf.old }
-    ensures { Put N.MAX_STR_LEN buf.old buf.new at result (N.text n) }
+pub(crate) fn put_number<N: Integer>(lent: &mut Lent, n: N)
+    requires { HasRoom N.MAX_STR_LEN lent.old }
+    ensures { Grown N.MAX_STR_LEN lent.old lent.new (N.text n) }
 {
-    codec::put_bytes(buf, at, Buffer::new().format(n).as_bytes())
+    lent.put_bytes(Buffer::new().format(n).as_bytes());
 }
 
 // A refusal number, or a number of seconds.
-pub fn put_count(buf: &mut [u8], at: usize, n: u32) -> usize
-    requires { at + count_width ≤ length buf.old }
-    ensures { Put count_width buf.old buf.new at result (digits n) }
+pub fn put_count(lent: &mut Lent, n: u32)
+    requires { HasRoom count_width lent.old }
+    ensures { Grown count_width lent.old lent.new (digits n) }
 {
-    put_number(buf, at, n)
+    put_number(lent, n);
 }
 
 // A space and a number that has no sign.
-pub(crate) fn put_unsigned(buf: &mut [u8], at: usize, n: u32) -> usize
-    requires { at + unsigned_width ≤ length buf.old }
-    ensures { Put unsigned_width buf.old buf.new at result (unsigned n) }
+pub(crate) fn put_unsigned(lent: &mut Lent, n: u32)
+    requires { HasRoom unsigned_width lent.old }
+    ensures { Grown unsigned_width lent.old lent.new (unsigned n) }
 {
-    let to = codec::put_byte(buf, at, b' ');
-    put_count(buf, to, n)
+    lent.put_byte(b' ');
+    put_count(lent, n);
 }
 
 // A space and the figure's number.
-pub fn put_field<T: Figure>(buf: &mut [u8], at: usize, x: T) -> usize
-    requires { at + field_width ≤ length buf.old }
-    ensures { Put field_width buf.old buf.new at result (field (T.value x)) }
+pub fn put_field<T: Figure>(lent: &mut Lent, x: T)
+    requires { HasRoom field_width lent.old }
+    ensures { Grown field_width lent.old lent.new (field (T.value x)) }
 {
-    let to = codec::put_byte(buf, at, b' ');
-    put_number(buf, to, x.number())
+    lent.put_byte(b' ');
+    put_number(lent, x.number());
 }

@@ -1,41 +1,43 @@
 // The line of a plant with every figure of its row.
-ghost use Rattle.std.specs.Prelude.{◌+◌, ◌≤◌, length};
-ghost use Rattle.codec.specs.Put.{Put};
+ghost use Rattle.codec.specs.Lent.{HasRoom, Grown};
 ghost use Rattle.line.specs.Widths.{row_room, kind_width};
 ghost use Rattle.line.specs.Line.{kind_text, row_text};
 ghost use Rattle.line.specs.Lined.{Lined};
 
-use crate::check_room;
 use crate::number::{put_count, put_field};
+use crate::{PlantSecond, check_room};
+use codec::Lent;
 use refusals::Refusal;
-use row::{KindRow, Row};
+use row::KindRow;
 
 // The least buffer that this line writer takes, and those of the shares and the short lines; no line needs more.
 pub const ROW_ROOM: usize = 256;
 
 // One kind's setpoint, band, share and actual value, each after a space.
-fn put_kind(buf: &mut [u8], at: usize, k: KindRow) -> usize
-    requires { at + kind_width ≤ length buf.old }
-    ensures { Put kind_width buf.old buf.new at result (kind_text k) }
+fn put_kind(lent: &mut Lent, k: KindRow)
+    requires { HasRoom kind_width lent.old }
+    ensures { Grown kind_width lent.old lent.new (kind_text k) }
 {
-    let at = put_field(buf, at, k.setpoint);
-    let at = put_field(buf, at, k.band.low);
-    let at = put_field(buf, at, k.band.high);
-    let at = put_field(buf, at, k.share);
-    put_field(buf, at, k.actual)
+    put_field(lent, k.setpoint);
+    put_field(lent, k.band.low);
+    put_field(lent, k.band.high);
+    put_field(lent, k.share);
+    put_field(lent, k.actual);
 }
 
 // The line of a plant's second: its letter, every figure of FCR, aFRR and mFRR, then open.
-pub fn plant_line(buf: &mut [u8], second: u32, letter: u8, x: Row) -> Result<usize, Refusal>
-    ensures { Lined row_room buf.old buf.new result (row_text second letter x) }
+pub fn plant_line(buf: &mut [u8], x: PlantSecond) -> Result<usize, Refusal>
+    ensures { Lined row_room buf.old buf.new result (row_text x.second x.letter x.row) }
 {
     check_room(buf, ROW_ROOM)?;
-    let at = put_count(buf, 0, second);
-    let at = codec::put_byte(buf, at, b' ');
-    let at = codec::put_byte(buf, at, letter);
-    let at = put_kind(buf, at, x.fcr);
-    let at = put_kind(buf, at, x.afrr);
-    let at = put_kind(buf, at, x.mfrr);
-    let at = put_field(buf, at, x.open);
-    Ok(codec::put_byte(buf, at, b'\n'))
+    let mut lent = Lent::new(buf);
+    put_count(&mut lent, x.second);
+    lent.put_byte(b' ');
+    lent.put_byte(x.letter);
+    put_kind(&mut lent, x.row.fcr);
+    put_kind(&mut lent, x.row.afrr);
+    put_kind(&mut lent, x.row.mfrr);
+    put_field(&mut lent, x.row.open);
+    lent.put_byte(b'\n');
+    Ok(lent.at)
 }

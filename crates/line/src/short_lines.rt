@@ -1,85 +1,101 @@
 // The lines that say which kind was short: those of a plant's second, and its counts over the whole book.
-ghost use Rattle.std.specs.Prelude.{◌+◌, ◌≤◌, length};
-ghost use Rattle.codec.specs.Put.{Put};
+ghost use Rattle.std.specs.Prelude.{◌≡◌, ◌≤◌, length};
+ghost use Rattle.codec.specs.Lent.{HasRoom, Grown};
 ghost use Rattle.row.specs.Side.{side_of};
-ghost use Rattle.line.specs.Widths.{row_room, name_width, side_width, outside_width, side_count_width, counts_width};
-ghost use Rattle.line.specs.Short.{outside_text, side_text, short_text, side_count_text, kind_counts_text, counts_text};
+ghost use Rattle.line.specs.Widths.{row_room, name_width, outside_width, side_count_width, counts_width};
+ghost use Rattle.line.specs.Short.{name_of, outside_text, side_text, short_text, side_count_text, kind_counts_text, counts_text};
 ghost use Rattle.line.specs.Lined.{Lined};
 
 use crate::number::{put_count, put_number};
-use crate::{ROW_ROOM, check_room};
+use crate::{PlantSecond, ROW_ROOM, check_room};
+use codec::Lent;
 use refusals::Refusal;
-use row::{BandSide, KindCounts, KindRow, PlantCounts, Row, SideCount};
+use row::{BandSide, KindCounts, KindRow, PlantCounts, SideCount};
 
-// The line of a kind outside its band. The names of kind and side have their spaces.
-fn put_outside(
-    buf: &mut [u8],
-    at: usize,
-    second: u32,
-    letter: u8,
-    kind: &[u8],
-    side: &[u8],
-    kw: u32,
-) -> usize
-    requires room { at + outside_width ≤ length buf.old }
-    requires kind_name { length kind.now ≤ name_width }
-    requires side_name { length side.now ≤ side_width }
-    ensures { Put outside_width buf.old buf.new at result (outside_text second letter kind.now side.now kw) }
+#[derive(Clone, Copy)]
+enum Kind {
+    Fcr,
+    Afrr,
+    Mfrr,
+}
+
+impl Kind {
+    // The kind's name, after a space.
+    fn name(self) -> &'static [u8]
+        ensures name { result.now ≡ name_of self }
+        ensures most { length result.now ≤ name_width }
+    {
+        match self {
+            Kind::Fcr => b" FCR",
+            Kind::Afrr => b" aFRR",
+            Kind::Mfrr => b" mFRR",
+        }
+    }
+}
+
+// The names of a band's sides, between spaces.
+const BELOW: &[u8; 7] = b" below ";
+
+const ABOVE: &[u8; 7] = b" above ";
+
+// The line of a kind outside its band.
+fn put_outside(lent: &mut Lent, x: &PlantSecond, kind: Kind, side: &[u8; 7], kw: u32)
+    requires { HasRoom outside_width lent.old }
+    ensures { Grown outside_width lent.old lent.new (outside_text x.now.second x.now.letter (name_of kind) side.now kw) }
 {
-    let at = put_count(buf, at, second);
-    let at = codec::put_byte(buf, at, b' ');
-    let at = codec::put_byte(buf, at, letter);
-    let at = codec::put_bytes(buf, at, kind);
-    let at = codec::put_bytes(buf, at, side);
-    let at = put_count(buf, at, kw);
-    codec::put_byte(buf, at, b'\n')
+    put_count(lent, x.second);
+    lent.put_byte(b' ');
+    lent.put_byte(x.letter);
+    lent.put_bytes(kind.name());
+    lent.put_bytes(side);
+    put_count(lent, kw);
+    lent.put_byte(b'\n');
 }
 
 // Nothing for a kind within its band.
-fn put_side(buf: &mut [u8], at: usize, second: u32, letter: u8, kind: &[u8], k: KindRow) -> usize
-    requires room { at + outside_width ≤ length buf.old }
-    requires kind_name { length kind.now ≤ name_width }
-    ensures { Put outside_width buf.old buf.new at result (side_text second letter kind.now (side_of k)) }
+fn put_side(lent: &mut Lent, x: &PlantSecond, kind: Kind, k: KindRow)
+    requires { HasRoom outside_width lent.old }
+    ensures { Grown outside_width lent.old lent.new (side_text x.now.second x.now.letter (name_of kind) (side_of k)) }
 {
     match k.side() {
-        BandSide::Within => at,
-        BandSide::Below(kw) => put_outside(buf, at, second, letter, kind, b" below ", kw),
-        BandSide::Above(kw) => put_outside(buf, at, second, letter, kind, b" above ", kw),
+        BandSide::Within => {}
+        BandSide::Below(kw) => put_outside(lent, x, kind, BELOW, kw),
+        BandSide::Above(kw) => put_outside(lent, x, kind, ABOVE, kw),
     }
 }
 
 // The lines of a plant's second: one for each kind outside its band, FCR, aFRR and mFRR in turn.
-pub fn plant_short(buf: &mut [u8], second: u32, letter: u8, x: Row) -> Result<usize, Refusal>
-    ensures { Lined row_room buf.old buf.new result (short_text second letter x) }
+pub fn plant_short(buf: &mut [u8], x: PlantSecond) -> Result<usize, Refusal>
+    ensures { Lined row_room buf.old buf.new result (short_text x.second x.letter x.row) }
 {
     check_room(buf, ROW_ROOM)?;
-    let at = put_side(buf, 0, second, letter, b" FCR", x.fcr);
-    let at = put_side(buf, at, second, letter, b" aFRR", x.afrr);
-    Ok(put_side(buf, at, second, letter, b" mFRR", x.mfrr))
+    let mut lent = Lent::new(buf);
+    put_side(&mut lent, &x, Kind::Fcr, x.row.fcr);
+    put_side(&mut lent, &x, Kind::Afrr, x.row.afrr);
+    put_side(&mut lent, &x, Kind::Mfrr, x.row.mfrr);
+    Ok(lent.at)
 }
 
 // The name of a side, its seconds and its kW-seconds.
-fn put_side_count(buf: &mut [u8], at: usize, side: &[u8], c: SideCount) -> usize
-    requires room { at + side_count_width ≤ length buf.old }
-    requires side_name { length side.now ≤ side_width }
-    ensures { Put side_count_width buf.old buf.new at result (side_count_text side.now c) }
+fn put_side_count(lent: &mut Lent, side: &[u8; 7], c: SideCount)
+    requires { HasRoom side_count_width lent.old }
+    ensures { Grown side_count_width lent.old lent.new (side_count_text side.now c) }
 {
-    let at = codec::put_bytes(buf, at, side);
-    let at = put_count(buf, at, c.seconds);
-    let at = codec::put_byte(buf, at, b' ');
-    put_number(buf, at, c.kw_seconds)
+    lent.put_bytes(side);
+    put_count(lent, c.seconds);
+    lent.put_byte(b' ');
+    put_number(lent, c.kw_seconds);
 }
 
-fn put_kind_counts(buf: &mut [u8], at: usize, letter: u8, kind: &[u8], c: KindCounts) -> usize
-    requires room { at + counts_width ≤ length buf.old }
-    requires kind_name { length kind.now ≤ name_width }
-    ensures { Put counts_width buf.old buf.new at result (kind_counts_text letter kind.now c) }
+fn put_kind_counts(lent: &mut Lent, letter: u8, kind: Kind, c: KindCounts)
+    requires { HasRoom counts_width lent.old }
+    ensures { Grown counts_width lent.old lent.new (kind_counts_text letter (name_of kind) c) }
 {
-    let at = codec::put_byte(buf, at, letter);
-    let at = codec::put_bytes(buf, at, kind);
-    let at = put_side_count(buf, at, b" below ", c.below);
-    let at = put_side_count(buf, at, b" above ", c.above);
-    codec::put_byte(buf, at, b'\n')
+    lent.put_byte(letter);
+    lent.put_bytes(kind.name());
+    put_side_count(lent, BELOW, c.below);
+    put_side_count(lent, ABOVE, c.above);
+    lent.put_byte(b'\n');
 }
 
 // The three lines of a plant's counts.
@@ -87,7 +103,9 @@ pub fn plant_counts(buf: &mut [u8], letter: u8, c: PlantCounts) -> Result<usize,
     ensures { Lined row_room buf.old buf.new result (counts_text letter c) }
 {
     check_room(buf, ROW_ROOM)?;
-    let at = put_kind_counts(buf, 0, letter, b" FCR", c.fcr);
-    let at = put_kind_counts(buf, at, letter, b" aFRR", c.afrr);
-    Ok(put_kind_counts(buf, at, letter, b" mFRR", c.mfrr))
+    let mut lent = Lent::new(buf);
+    put_kind_counts(&mut lent, letter, Kind::Fcr, c.fcr);
+    put_kind_counts(&mut lent, letter, Kind::Afrr, c.afrr);
+    put_kind_counts(&mut lent, letter, Kind::Mfrr, c.mfrr);
+    Ok(lent.at)
 }

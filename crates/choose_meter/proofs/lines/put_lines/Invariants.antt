@@ -6,4 +6,4 @@ use Rattle.choose_meter.proofs.lines.put_lines.Given as goal
 
 abbrev pub invariant-loop-record : goal.invariant-loop-record
 invariant-loop-record l =
-    (l.record-iterator.size ≡ record_size) × SoFar (length l.yielded) l.bytes l.record-iterator.rest.now l.initial.buf l.buf l.at
+    (l.record-iterator.size ≡ record_size) × SoFar (length l.yielded) l.bytes l.record-iterator.rest.now l.initial.lent l.lent

@@ -1,12 +1,14 @@
 -- What the calls put, one after the other, where there is room.
-use Rattle.codec.proofs.Puts.{both}
-use Rattle.line.proofs.Lines.{written}
+use Rattle.std.proofs.Common.{rules, ◌∙◌, arith}
+use Rattle.codec.proofs.Lents.{both}
 use Rattle.line.specs.Line.{refusal_text}
-use Rattle.std.proofs.Common.{arith}
+use Rattle.line.proofs.Lines.{written}
 use Rattle.line.proofs.book_lines.refusal_line.Goals as goal
 
 pub returns : goal.returns
 unfolding refusal_text
 returns c =
     let n = c.from.ensures in
-    rw (← n) (written c.in_ok-check_room.ensures (omega arith) (both c.put_bytes-at.ensures (both c.put_count-at.ensures (both c.put_bytes-at-2.ensures (both c.put_count-at-2.ensures c.put_byte.ensures)))))
+    let g = both c.put_bytes.ensures (both c.put_count.ensures (both c.put_bytes-2.ensures (both c.put_count-2.ensures c.put_byte.ensures))) in
+    let same = g.same ∙ c.new-lent.ensures.same in
+    rw (← n) (written c.in_ok-check_room.ensures (omega arith) c.new-lent.ensures.bytes c.new-lent.ensures.start (search rules) g)

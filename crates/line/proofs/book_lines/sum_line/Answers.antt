@@ -1,10 +1,13 @@
 -- What the calls put, one after the other, where there is room.
-use Rattle.codec.proofs.Puts.{both}
-use Rattle.line.proofs.Lines.{written}
+use Rattle.std.proofs.Common.{rules, ◌∙◌, arith}
+use Rattle.codec.proofs.Lents.{both}
 use Rattle.line.specs.Line.{sum_text}
-use Rattle.std.proofs.Common.{arith}
+use Rattle.line.proofs.Lines.{written}
 use Rattle.line.proofs.book_lines.sum_line.Goals as goal
 
 pub returns : goal.returns
 unfolding sum_text
-returns c = written c.in_ok-check_room.ensures (omega arith) (both c.put_named-at.ensures (both c.put_named-at-2.ensures (both c.put_named-at-3.ensures (both c.put_named-at-4.ensures c.put_byte.ensures))))
+returns c =
+    let g = both c.put_named.ensures (both c.put_named-2.ensures (both c.put_named-3.ensures (both c.put_named-4.ensures c.put_byte.ensures))) in
+    let same = g.same ∙ c.new-lent.ensures.same in
+    written c.in_ok-check_room.ensures (omega arith) c.new-lent.ensures.bytes c.new-lent.ensures.start (search rules) g

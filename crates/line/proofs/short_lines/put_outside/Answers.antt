@@ -1,9 +1,12 @@
 -- What the calls put, one after the other.
-use Rattle.codec.proofs.Puts.{both, loosen}
-use Rattle.line.specs.Short.{outside_text}
 use Rattle.std.proofs.Common.{arith}
+use Rattle.codec.proofs.Lents.{both, loosen}
+use Rattle.line.specs.Short.{outside_text}
 use Rattle.line.proofs.short_lines.put_outside.Goals as goal
 
 pub returns : goal.returns
 unfolding outside_text
-returns c = loosen (omega arith) (both c.put_count-at.ensures (both c.put_byte-at.ensures (both c.put_byte-at-2.ensures (both c.put_bytes-at.ensures (both c.put_bytes-at-2.ensures (both c.put_count-at-2.ensures c.put_byte.ensures))))))
+returns c =
+    let e = c.name.ensures.name in
+    let most = c.name.ensures.most in
+    rw (← e) (loosen (omega arith) (both c.put_count.ensures (both c.put_byte.ensures (both c.put_byte-2.ensures (both c.put_bytes.ensures (both c.put_bytes-2.ensures (both c.put_count-2.ensures c.put_byte-3.ensures)))))))

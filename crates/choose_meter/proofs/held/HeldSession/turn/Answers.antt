@@ -3,7 +3,7 @@ use Rattle.std.proofs.Common.{◌≡◌, ◌≤◌, ◌<◌, ◌+◌, ◌++◌, 
 use Rattle.std.specs.Io.KnownBytes.{Appends}
 use Rattle.choose_meter.specs.Printed.{printed, whole_text, rest_of}
 use Rattle.choose_meter.proofs.Laws.{received, more}
-use Rattle.codec.proofs.Puts.{front}
+use Rattle.codec.proofs.Lents.{front}
 use Rattle.choose_meter.proofs.held.HeldSession.turn.Goals as goal
 
 pub returns-clause-went : goal.returns-clause-went
@@ -16,15 +16,16 @@ returns-clause-went g c =
     let joined : take (c.self.inside.filled + c.in_ok-n.n) _ ≡ h ++ read =
     received c.self.inside.filled _ c.in_ok-n.n c.self.inside.bytes c.receive.new.buf filled bound ∙ ap (λ (l : List ℕ). l ++ read) c.self.view_is
     in
+    let text = c.filled.ensures ∙ front c.new-lines.ensures.start c.put_lines.ensures in
     λ u. record {
       bytes = read;
       text = whole_text (h ++ read);
       some = some;
       read = c.in_ok-n.ensures.bytes.0;
-      sent = subst (Appends _ _) (front c.take-used.ensures.text ∙ ap whole_text joined) c.in_ok-send.ensures;
+      sent = subst (Appends _ _) (text ∙ ap whole_text joined) c.in_ok-send.ensures;
       told =
           λ next.
-          ap (λ (l : List ℕ). whole_text (h ++ read) ++ printed (l ++ next)) (front c.take-used.ensures.kept ∙ ap rest_of joined)
+          ap (λ (l : List ℕ). whole_text (h ++ read) ++ printed (l ++ next)) (c.keep-filled.ensures.begun ∙ ap rest_of joined)
           ∙ more (h ++ read) next
           ∙ ap printed (append_assoc h read next);
     }
