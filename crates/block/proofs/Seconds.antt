@@ -1,10 +1,13 @@
 -- The seconds of an accepted block from their bytes. Assumes nothing.
-use Rattle.std.proofs.Common.{◌≡◌, refl, sym, ap, ◌∙◌, ℕ, zero, suc, ◌+◌, ◌*◌, ◌/◌, ◌-◌, ◌≤◌, ◌++◌, List, length, take, drop, arith}
+use Rattle.std.proofs.Common.{◌≡◌, refl, sym, ap, ◌∙◌, ℕ, zero, suc, ◌+◌, ◌*◌, ◌/◌, ◌-◌, ◌≤◌, ◌<◌, List, [], ◌∷◌, ◌++◌, length, length-append, take, drop, Result, Ok, IfOk, arith}
+use Rattle.std.specs.Borrow.{Bor}
 use lib.Seq.{take_at, drop_at}
+use Rattle.refusals.specs.declared.Refusal.{Refusal}
 use Rattle.block.specs.Bytes.{part}
 use Rattle.block.specs.Places.{per_block, second_size, second_at}
-use Rattle.block.specs.Block.{count_of, block_number, second_of, seconds_from, first_seconds, all_seconds}
+use Rattle.block.specs.Block.{count_of, block_number, block_of, block_says, count_told, second_of, seconds_from, first_seconds, all_seconds}
 use Rattle.block.specs.Layout.{body_of}
+use Rattle.block.proofs.Answers.{accepted}
 use Rattle.block.proofs.Parts.{part_split, part_length}
 use Rattle.block.proofs.Taken.{taken_block, due_most}
 
@@ -35,3 +38,30 @@ body_seconds s seconds n e =
     let all : 0 + count_of s ≡ count_of s = omega arith in
     let each : first_seconds (count_of s) (part s (second_at 0) (second_at (0 + count_of s))) ≡ seconds_from s 0 (count_of s) = seconds_at s 0 (count_of s) (omega (arith, (taken_block s seconds n e).len, f.1)) in
     rw count (rw all at each)
+
+-- one second more, and no second
+pub one_more : (x rest : List ℕ) → length x ≡ second_size → all_seconds (x ++ rest) ≡ x ∷ all_seconds rest
+unfolding first_seconds
+one_more x rest h =
+    let len = length-append x rest in
+    let count : length (x ++ rest) / second_size ≡ suc (length rest / second_size) = omega (arith, h) in
+    rw (count, take_at x rest second_size h, drop_at x rest second_size h)
+
+pub no_more : (s : List ℕ) → length s < second_size → all_seconds s ≡ []
+unfolding first_seconds
+no_more s h =
+    let none : length s / second_size ≡ 0 = omega arith in
+    rw none
+
+-- what the reader's answer says of the bytes `body`
+pub record Seconds (s : List ℕ) (seconds n : ℕ) (body : List ℕ) : Type 0 where
+  pub number : block_number s seconds n ≡ 0
+  pub few : length body ≤ second_size * per_block
+  pub each : all_seconds body ≡ seconds_from s 0 (count_of s)
+
+pub read_seconds : (s : List ℕ) (seconds n : ℕ) {r : Result (Bor (List ℕ)) Refusal} {body : Bor (List ℕ)} → r ≡ Ok body → block_says (count_told r) ≡ block_of s seconds n → IfOk r (λ b. b.now ≡ body_of s (count_of s)) → Seconds s seconds n body.now
+read_seconds s seconds n {r} {body} is says bytes =
+    let number = (accepted _ _ _ (sym says ∙ ap (λ (q : Result (Bor (List ℕ)) Refusal). block_says (count_told q)) is)).0 in
+    let same : body.now ≡ body_of s (count_of s) = rw is at bytes in
+    let size = body_length s seconds n number in
+    rw same (record { number = number; few = omega (arith, size.0, size.1); each = body_seconds s seconds n number })
