@@ -24,7 +24,7 @@ use record::KindBits;
 use refusals::Refusal;
 use row::{KwSeconds, Row, Sums};
 use sheet::Sheet;
-use sums::{fields_of, due_in, with_second};
+use sums::{due_in, fields_of, with_second};
 use unit::{added_to, others};
 
 // The plants of a book.
