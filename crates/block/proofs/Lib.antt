@@ -8,3 +8,4 @@ pub mod ReadBack
 pub mod Book
 pub mod WriterClaims
 pub mod Values
+pub mod Seconds

@@ -7,19 +7,21 @@ ghost use Rattle.block.specs.Writing.{written_says, block_written};
 use crate::bytes::{put_check, put_zeros};
 use crate::later_block::{BODY_AT, PER_BLOCK, SECOND};
 use crate::{CHECK_AT, SIZE};
+use codec::Lent;
 use refusals::Refusal;
 
 // A later block's fields and their check.
-fn put_block(buf: &mut [u8; SIZE], n: u32, seconds: &[u8])
+fn put_block(block: &mut [u8; SIZE], n: u32, seconds: &[u8])
     requires { length seconds.now ≤ second_size * per_block }
-    ensures { buf.new ≡ block_bytes n seconds.now }
+    ensures { block.new ≡ block_bytes n seconds.now }
 {
-    let at = codec::put_u32(buf, 0, n);
-    let at = codec::put_byte(buf, at, (seconds.len() / SECOND) as u8);
-    let at = put_zeros(buf, at, BODY_AT);
-    let at = codec::put_bytes(buf, at, seconds);
-    put_zeros(buf, at, CHECK_AT);
-    put_check(buf);
+    let mut lent = Lent::new(block);
+    lent.put_u32(n);
+    lent.put_byte((seconds.len() / SECOND) as u8);
+    put_zeros(&mut lent, BODY_AT);
+    lent.put_bytes(seconds);
+    put_zeros(&mut lent, CHECK_AT);
+    put_check(&mut lent);
 }
 
 // Block n of a book, of the bytes of its seconds. Where a rule stands against it, the first that does, and the buffer stays as it was.

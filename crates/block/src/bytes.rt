@@ -1,12 +1,13 @@
 // Check and spare bytes of a block.
-ghost use Rattle.std.specs.Prelude.{◌≡◌, ◌-◌, ◌≤◌, length};
-ghost use Rattle.codec.specs.Put.{Put};
-ghost use Rattle.block.specs.Places.{block_size, check_at};
-ghost use Rattle.block.specs.Bytes.{part, all_zero, zeros};
+ghost use Rattle.std.specs.Prelude.{◌≡◌, ◌-◌, ◌≤◌, length, take};
+ghost use Rattle.codec.specs.Little.{le4};
+ghost use Rattle.codec.specs.Lent.{HasRoom, Grown};
+ghost use Rattle.block.specs.Places.{check_at};
+ghost use Rattle.block.specs.Bytes.{all_zero, zeros};
 ghost use Rattle.block.specs.Check.{check_of};
-ghost use Rattle.block.specs.Layout.{closed};
 
-use crate::{CHECK_AT, SIZE};
+use crate::CHECK_AT;
+use codec::Lent;
 
 // 1, and each byte before the check times its place, counted from 1.
 pub(crate) fn check_of(s: &[u8]) -> u32
@@ -27,19 +28,20 @@ pub(crate) fn is_zero(s: &[u8]) -> bool
     s.iter().all(|b| *b == 0)
 }
 
-// Zeros put at bytes from to end - 1.
-pub(crate) fn put_zeros(buf: &mut [u8], from: usize, end: usize) -> usize
-    requires { (from ≤ end) × (end ≤ length buf.old) }
-    ensures { Put (end - from) buf.old buf.new from result (zeros (end - from)) }
+// Zeros up to byte end - 1.
+pub(crate) fn put_zeros(lent: &mut Lent, end: usize)
+    requires { (lent.old.at ≤ end) × (end ≤ length lent.old.buf.now) }
+    ensures { Grown (end - lent.old.at) lent.old lent.new (zeros (end - lent.old.at)) }
 {
-    buf[from..end].fill(0);
-    end
+    lent.buf[lent.at..end].fill(0);
+    lent.at = end;
 }
 
-// The check of the bytes before it, put after them.
-pub(crate) fn put_check(buf: &mut [u8; SIZE])
-    ensures { buf.new ≡ closed (part buf.old 0 check_at) }
+// The check of what is put.
+pub(crate) fn put_check(lent: &mut Lent)
+    requires { HasRoom 4 lent.old × (lent.old.at ≡ check_at) }
+    ensures { Grown 4 lent.old lent.new (le4 (check_of (take check_at lent.old.buf.now))) }
 {
-    let check = check_of(buf);
-    codec::put_u32(buf, CHECK_AT, check);
+    let check = check_of(lent.filled());
+    lent.put_u32(check);
 }

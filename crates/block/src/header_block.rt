@@ -7,6 +7,8 @@ use crate::bytes::{check_of, is_zero};
 use crate::{CHECK_AT, Header, SIZE};
 use refusals::Refusal;
 
+pub(crate) const NAME: &[u8; 4] = b"RLIW";
+
 const NAME_AT: usize = 0;
 
 const VERSION_AT: usize = 4;
@@ -24,10 +26,10 @@ const BOOK_SECONDS_AT: usize = 8;
 const END: usize = BOOK_SECONDS_AT + 4;
 
 // The first four bytes, as a number.
-pub(crate) fn first_bytes() -> u32
+fn first_bytes() -> u32
     ensures { result ≡ u32_at name 0 }
 {
-    codec::read_u32(b"RLIW", 0)
+    codec::read_u32(NAME, 0)
 }
 
 // Owner and seconds of the header, or the first rule that it breaks.

@@ -5,21 +5,23 @@ ghost use Rattle.block.specs.Layout.{header_bytes};
 ghost use Rattle.block.specs.Writing.{written_says, header_written};
 
 use crate::bytes::{put_check, put_zeros};
-use crate::header_block::{VERSION, first_bytes};
+use crate::header_block::{NAME, VERSION};
 use crate::{CHECK_AT, SIZE};
+use codec::Lent;
 use refusals::Refusal;
 
 // The header's fields and their check.
-fn put_header(buf: &mut [u8; SIZE], owner: u8, seconds: u32)
-    ensures { buf.new ≡ header_bytes owner seconds }
+fn put_header(block: &mut [u8; SIZE], owner: u8, seconds: u32)
+    ensures { block.new ≡ header_bytes owner seconds }
 {
-    let at = codec::put_u32(buf, 0, first_bytes());
-    let at = codec::put_u16(buf, at, VERSION);
-    let at = codec::put_byte(buf, at, owner);
-    let at = codec::put_byte(buf, at, 0);
-    let at = codec::put_u32(buf, at, seconds);
-    put_zeros(buf, at, CHECK_AT);
-    put_check(buf);
+    let mut lent = Lent::new(block);
+    lent.put_bytes(NAME);
+    lent.put_u16(VERSION);
+    lent.put_byte(owner);
+    lent.put_byte(0);
+    lent.put_u32(seconds);
+    put_zeros(&mut lent, CHECK_AT);
+    put_check(&mut lent);
 }
 
 // The header of a book of `seconds` seconds. Where a rule stands against it, the first that does, and the buffer stays as it was.

@@ -1,8 +1,8 @@
 // A later block: 0-3 block number from 1, 4 seconds in it, from 16 on 108 bytes a second: U, A, B. All else is 0.
-ghost use Rattle.std.specs.Prelude.{◌≡◌, ◌≤◌, ◌<◌, length};
+ghost use Rattle.std.specs.Prelude.{◌≡◌, ◌≤◌, ◌<◌, IfOk};
 ghost use Rattle.record.specs.Record.{most_seconds};
-ghost use Rattle.block.specs.Places.{block_size, per_block, second_at};
-ghost use Rattle.block.specs.Block.{due_in, block_of, block_says, SecondIn};
+ghost use Rattle.block.specs.Places.{per_block};
+ghost use Rattle.block.specs.Block.{due_in, count_of, block_of, block_says, count_told};
 ghost use Rattle.block.specs.Layout.{body_of};
 ghost use Rattle.block.specs.Book.{last_block};
 
@@ -42,19 +42,12 @@ fn due(seconds: u32, n: u32) -> usize
     left.min(PER_BLOCK)
 }
 
-// The place of second i, counted from 0; past the last second, that of the unused ones.
-fn second_at(i: usize) -> usize
-    requires { i ≤ per_block }
-    ensures { result ≡ second_at i }
-{
-    BODY_AT + SECOND * i
-}
-
-// How many seconds block n has, read with the header's seconds and n, the number next in turn; or the first rule that it breaks. The
-// bytes of the seconds are parts of the caller's slice (`second`).
+// The bytes of block n's seconds, a part of the caller's slice, read with the header's seconds and n, the number next in turn; or the first rule
+// that the block breaks.
 #[tactic(auto, using(std::proofs::lemmas::Bool::Decides::nat_tests), unfolding(crate::specs::Block::block_number))]
-pub fn read_block(s: &[u8], seconds: u32, n: u32) -> Result<usize, Refusal>
-    ensures { block_says result ≡ block_of s.now seconds n }
+pub fn read_block(s: &[u8], seconds: u32, n: u32) -> Result<&[u8], Refusal>
+    ensures count { block_says (count_told result) ≡ block_of s.now seconds n }
+    ensures bytes { IfOk result (λ body. body.now ≡ body_of s.now (count_of s.now)) }
 {
     if s.len() != SIZE {
         return Err(Refusal::Length);
@@ -72,24 +65,9 @@ pub fn read_block(s: &[u8], seconds: u32, n: u32) -> Result<usize, Refusal>
     if usize::from(s[COUNT_AT]) != count {
         return Err(Refusal::BlockSeconds);
     }
-    if !is_zero(&s[COUNT_END..BODY_AT]) || !is_zero(&s[second_at(count)..CHECK_AT]) {
+    let end = BODY_AT + SECOND * count;
+    if !is_zero(&s[COUNT_END..BODY_AT]) || !is_zero(&s[end..CHECK_AT]) {
         return Err(Refusal::SpareByte);
     }
-    Ok(count)
-}
-
-// The bytes of second i of a block, counted from 0: U, A, B.
-pub fn second(s: &[u8], i: usize) -> &[u8]
-    requires { (length s.now ≡ block_size) × (i < per_block) }
-    ensures { SecondIn s.now i result.now }
-{
-    &s[second_at(i)..second_at(i + 1)]
-}
-
-// The bytes of a block's first `count` seconds.
-pub fn body(s: &[u8], count: usize) -> &[u8]
-    requires { (length s.now ≡ block_size) × (count ≤ per_block) }
-    ensures { result.now ≡ body_of s.now count }
-{
-    &s[BODY_AT..second_at(count)]
+    Ok(&s[BODY_AT..end])
 }

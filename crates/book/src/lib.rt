@@ -24,7 +24,7 @@ use record::KindBits;
 use refusals::Refusal;
 use row::{KwSeconds, Row, Sums};
 use sheet::Sheet;
-use sums::{due_in, with_second};
+use sums::{due_in, fields_of, with_second};
 use unit::{added_to, others};
 
 // The plants of a book.
@@ -190,7 +190,7 @@ impl Book {
         let Ok(unit_row) = unit_answer else {
             return Err(Plant::U.refuses(unit_answer.unwrap_err()));
         };
-        let point = record::fields_of(unit).working_point;
+        let point = fields_of(unit).working_point;
         let sold = KindBits::from(owner);
         let a_answer = next.a.second_with(
             self.sheet,

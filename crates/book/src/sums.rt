@@ -1,7 +1,7 @@
 // The four sums of a book: A's and B's actual values, open, and due.
-ghost use Rattle.std.specs.Prelude.{◌≡◌, ◌+ℤ◌};
+ghost use Rattle.std.specs.Prelude.{◌≡◌, ◌+ℤ◌, length};
 ghost use Rattle.numbers.specs.Bounds.{Within};
-ghost use Rattle.record.specs.Record.{most_seconds};
+ghost use Rattle.record.specs.Record.{size, most_seconds, record_of};
 ghost use Rattle.sharing.specs.Sizes.{SizedRow};
 ghost use Rattle.book.specs.Seconds.{difference, due_from};
 ghost use Rattle.book.specs.Sums.{actuals_of, open_of};
@@ -44,15 +44,23 @@ fn difference(x: Record) -> Kw
     x.measured.minus(x.working_point)
 }
 
+// The fields of a plant second of the right length.
+pub(crate) fn fields_of(s: &[u8]) -> Record
+    requires { length s.now ≡ size }
+    ensures { result ≡ record_of s.now }
+{
+    record::fields_of(s.try_into().unwrap())
+}
+
 // What is due in a second, read from its bytes: U, A and B, each once.
 pub(crate) fn due_in(u: &[u8], a: &[u8], b: &[u8]) -> Kw
     requires { Readable u.now × Readable a.now × Readable b.now }
     ensures { result.0 ≡ due_from u.now a.now b.now }
 {
     sum_of(
-        difference(record::fields_of(u)),
-        difference(record::fields_of(a)),
-        difference(record::fields_of(b)),
+        difference(fields_of(u)),
+        difference(fields_of(a)),
+        difference(fields_of(b)),
     )
 }
 

@@ -2,11 +2,13 @@
 use mathlib.Core.Path.{◌≡◌, refl, sym, ap, ◌∙◌, subst}
 use mathlib.Core.List.{List, [], ◌∷◌, ◌++◌, append_assoc, append-nil}
 use Prim.Native.Nat.{ℕ, zero, suc, ◌+◌, ◌*◌, ◌-◌, ◌/◌, ◌≤◌, ◌<◌, zero-le}
-use native.Mathlib.Nat.{zero-add, le_of_eq}
+use native.Mathlib.Nat.{zero-add}
 use native.Mathlib.Omega.{arith}
 use lib.ListN.{length, take, drop, length-append, length-drop}
-use lib.Seq.{take_at, drop_at, drop-drop, take-add, length-take-le, take_all, take-append-le, drop-append-le, take-append-add}
-use borrow.Rule.Slice.PartMut.{put_mid, post_of}
+use lib.Seq.{take_at, drop_at, drop-drop, length-take-le, take_all, take-append-le, drop-append-le, take-append-add}
+use borrow.Rule.Slice.PartMut.{put_mid}
+use Rattle.std.proofs.lemmas.Grind.{common_steps}
+use Rattle.std.proofs.lemmas.Slice.{between_is}
 use Rattle.std.specs.List.{copy_within}
 use Rattle.codec.specs.declared.lent.Lent.{Lent}
 use Rattle.codec.specs.Lent.{HasRoom, Grown}
@@ -108,10 +110,7 @@ module _ {k : ℕ} {s rest : List ℕ} {t u : Lent} (f : SoFar k s rest t u) whe
 
 -- n bytes of `new`, which stand in b from `from` on
 pub received : (from k n : ℕ) (b new : List ℕ) → from ≤ length b → n ≤ length new → take (from + n) (put_mid from k b new) ≡ take from b ++ take n new
-received from k n b new h i =
-    ap (λ (m : ℕ). take (m + n) (put_mid from k b new)) (sym (length-take-le from b h))
-    ∙ take-append-add (take from b) (new ++ post_of from k b) n
-    ∙ ap (λ (l : List ℕ). take from b ++ l) (take-append-le n new (post_of from k b) i)
+received from k n b new h i = grind (arith, common_steps, take-append-add)
 
 -- ---- what is left of a piece
 
@@ -122,12 +121,8 @@ rest_is n b h =
     let q = n / record_size * record_size in
     let part = take (n - q) (drop q b) in
     take_at part (drop (0 + (n - q)) b) (n - q) (length-take-le (n - q) (drop q b) (rw length-drop (omega arith)))
-    ∙ sym (drop_at (take q b) part q (length-take-le q b (omega arith)))
-    ∙ ap (drop q) (sym (take-add q (n - q) b) ∙ ap (λ (m : ℕ). take m b) (back q n (omega arith)))
+    ∙ between_is b q n
     ∙ ap (λ (m : ℕ). drop (m / record_size * record_size) (take n b)) (sym (length-take-le n b h))
-  where
-    back : (q n : ℕ) → q ≤ n → q + (n - q) ≡ n
-    back q n h = omega arith
 
 -- the end of the input
 pub nothing : (t : Lent) (s : List ℕ) → HasRoom line_width t → length s ≡ 0 → Grown line_width t t (printed s)

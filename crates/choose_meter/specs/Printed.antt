@@ -1,5 +1,5 @@
 -- What the program prints: from all the bytes of standard input to all those of standard output, and the same as the bytes come.
-use Rattle.std.specs.Prelude.{ℕ, zero, suc, ◌+◌, ◌*◌, ◌/◌, ◌-◌, ◌<◌, List, [], ◌∷◌, ◌++◌, length, take, drop}
+use Rattle.std.specs.Prelude.{ℕ, zero, suc, ◌+◌, ◌*◌, ◌/◌, List, [], ◌∷◌, ◌++◌, length, take, drop}
 use Rattle.line.specs.Text.{ascii, digits, field}
 use Rattle.line.specs.Widths.{field_width}
 use Rattle.meters.specs.Meters.{Said, deviation, refused}

@@ -1,13 +1,10 @@
--- A line written into the rest of the buffer is text put where that rest starts. Assumes nothing.
-use mathlib.Core.Path.{◌≡◌, sym, ap, ◌∙◌}
-use mathlib.Core.List.{List, ◌++◌, append-nil}
-use Prim.Native.Nat.{ℕ, ◌+◌, ◌-◌, ◌≤◌}
-use native.Mathlib.Omega.{arith}
-use lib.ListN.{length, take, drop, length-drop}
+-- A line written into the rest of a lent buffer is text put where that rest starts. Assumes nothing.
+use Rattle.std.proofs.Common.{◌≡◌, ℕ, ◌+◌, ◌-◌, ◌≤◌, List, ◌++◌, length, take, drop, Result, Ok, sym, ap, ◌∙◌, arith}
+use mathlib.Core.List.{append-nil}
+use lib.ListN.{length-drop}
 use lib.Seq.{take_all, drop-length, drop-drop}
 use borrow.Author.Tests.{le-ltb}
 use borrow.Rule.Slice.PartMut.{mid_of, put_mid, Post-is}
-use Rattle.std.proofs.Common.{Result, Ok}
 use Rattle.refusals.specs.declared.Refusal.{Refusal}
 use Rattle.line.proofs.Lines.{taken}
 use Rattle.line.specs.Lined.{Lined, length_in}
@@ -19,12 +16,12 @@ use Rattle.report.specs.Text.{room_of}
 
 pub room_most : (t : TextLine) → room_of t ≤ row_room
 room_most (text.Second t u a b) = omega arith
-room_most (text.Plant t letter x) = omega arith
+room_most (text.Plant x) = omega arith
 room_most (text.Sums s) = omega arith
 room_most (text.Refusal n t) = omega arith
-room_most (text.Short t letter x) = omega arith
+room_most (text.Short x) = omega arith
 room_most (text.Counts letter c) = omega arith
-room_most (text.Shares t letter x) = omega arith
+room_most (text.Shares x) = omega arith
 
 -- the rest of the buffer from byte `at` on
 rest_is : (at m : ℕ) (b : List ℕ) → at + m ≤ length b → mid_of at (length b - at) b ≡ drop at b

@@ -1,38 +1,27 @@
 -- A block as its reader answered: its seconds are run in turn, or it is refused. Assumes nothing.
-use mathlib.Core.Path.{◌≡◌, refl, sym, ap, ◌∙◌}
-use mathlib.Core.List.{List, [], ◌∷◌}
-use Prim.Native.Nat.{ℕ, zero, suc, ◌≤◌}
-use native.Mathlib.Omega.{arith}
-use lib.ListN.{length}
-use Rattle.std.proofs.Common.{Result, Ok, Err}
+use Rattle.std.proofs.Common.{◌≡◌, ℕ, zero, suc, ◌≤◌, List, [], ◌∷◌, length, refl, arith}
 use Rattle.refusals.specs.declared.Refusal.{Refusal}
 use Rattle.refusals.specs.Refusals.{number_of}
+use Rattle.codec.specs.declared.lent.Lent.{Lent}
+use Rattle.codec.proofs.Lents.{loosen, none}
 use Rattle.block.specs.Said.{refused, answered}
-use Rattle.block.specs.Places.{block_size, per_block}
-use Rattle.block.specs.Block.{block_number, block_of, block_says, count_of, seconds_from}
-use Rattle.block.proofs.Taken.{block_fields, block_zero, whole_block}
-use Rattle.codec.proofs.Puts.{loosen, none}
-use Rattle.report.specs.declared.run.Kept.{Kept}
+use Rattle.block.specs.Block.{block_number, block_of, count_of, all_seconds, seconds_from}
 use Rattle.report.specs.declared.run.Plan.{Plan}
 use Rattle.report.specs.Text.{block_room}
-use Rattle.report.specs.Running.{Refused, refused_at, seconds_in, block_by, block_in, run_of, KeptReady, Adds}
+use Rattle.report.specs.Kept.{Kept}
+use Rattle.report.specs.Running.{Refused, refused_at, seconds_in, block_by, block_in, Adds}
 
 module _ (p : Plan) (n : ℕ) (s : List ℕ) where
-  pub whole : {r : Result ℕ Refusal} {m : ℕ} → r ≡ Ok m → block_says r ≡ block_of s p.seconds n → (length s ≡ block_size) × (m ≤ per_block)
-  whole {m = m} is says = whole_block s p.seconds n m (sym says ∙ ap block_says is)
-
-  pub in_turn : {r : Result ℕ Refusal} {m : ℕ} (k : Kept) → r ≡ Ok m → block_says r ≡ block_of s p.seconds n → block_in p n k s ≡ seconds_in p k (seconds_from s 0 m)
+  pub in_turn : (body : List ℕ) (k : Kept) → block_number s p.seconds n ≡ 0 → all_seconds body ≡ seconds_from s 0 (count_of s) → block_in p n k s ≡ seconds_in p k (all_seconds body)
   unfolding block_in
-  in_turn {m = m} k is says =
-      let f = block_fields s p.seconds n m (sym says ∙ ap block_says is) in
-      rw (block_zero s p.seconds n f.0, f.1)
+  in_turn body k is all = rw (is, all)
 
   number_is : (k : Kept) (q m : ℕ) → refused m ≡ answered q (count_of s ∷ []) → block_by q p k s ≡ refused_at k m
-  number_is k zero m e = let z : ◌≡◌ {A = ℕ} 0 1 = cc in absurd (omega arith)
+  number_is k zero m e = cc
   number_is k (suc q) m e = cc
 
-  pub turned_down : {r : Result ℕ Refusal} {b : List ℕ} {e : Refusal} {used : ℕ} (k : Kept) → r ≡ Err e → block_says r ≡ block_of s p.seconds n → KeptReady k → used ≤ length b → Adds block_room b b used (run_of k used (Refused (number_of e))) (block_in p n k s)
+  pub turned_down : (e : Refusal) {t : Lent} (k : Kept) → refused (number_of e) ≡ block_of s p.seconds n → t.at ≤ length t.buf.now → Adds block_room t t k (Refused (number_of e)) (block_in p n k s)
   unfolding block_in
-  turned_down {b = b} {e} {used} k is says ready room =
-      rw (number_is k (block_number s p.seconds n) (number_of e) (sym (ap block_says is) ∙ says))
-      (record { kept = refl; verdict = refl; text = loosen (omega arith) (none b used room); ready = ready })
+  turned_down e {t} k says room =
+      rw (number_is k (block_number s p.seconds n) (number_of e) says)
+      (record { kept = refl; verdict = refl; text = loosen (omega arith) (none t room) })

@@ -20,8 +20,7 @@ use Rattle.book.specs.Run.{accepted}
 use Rattle.book.specs.State.{fresh}
 use Rattle.tally.specs.Tally.{zero}
 use Rattle.report.specs.declared.Form.{Form}
-use Rattle.report.specs.declared.run.Kept.{Kept}
-use Rattle.report.specs.Running.{keep}
+use Rattle.report.specs.Kept.{Kept, keep}
 use Rattle.report.specs.Counts.{kept_of, kept_after}
 use Rattle.report.specs.Claims.{NoLine, NoLines, Claims}
 use Rattle.report.proofs.Past.{tally_none}

@@ -17,9 +17,9 @@ use Rattle.book.specs.Run.{accepted}
 use Rattle.book.specs.State.{state_of, second_of, step_in}
 use Rattle.book.proofs.Past.{cleared, over_past}
 use Rattle.report.specs.declared.Form.{Form}
-use Rattle.report.specs.declared.run.Kept.{Kept}
+use Rattle.report.specs.Kept.{Kept, keep}
 use Rattle.report.specs.declared.run.Plan.{Plan}
-use Rattle.report.specs.Running.{Accepted as kept_going, keep, Ran, answered, refused_at, second_in}
+use Rattle.report.specs.Running.{Accepted as kept_going, Ran, answered, refused_at, second_in}
 use Rattle.report.specs.Counts.{kept_of, kept_after}
 use Rattle.report.specs.Text.{lines_of}
 use Rattle.report.proofs.Past.{tally_more}

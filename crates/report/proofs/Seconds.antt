@@ -1,11 +1,6 @@
 -- The seconds of a block in turn: one second's answer, and what the seconds so far added. Assumes nothing.
-use mathlib.Core.Path.{◌≡◌, refl, sym, ap, ◌∙◌}
-use mathlib.Core.List.{List, [], ◌++◌, append_assoc, append-nil}
-use Prim.Native.Nat.{ℕ, suc, ◌+◌, ◌*◌, ◌-◌, ◌≤◌, ◌<◌}
-use native.Mathlib.Numerals.{add-one}
-use native.Mathlib.Omega.{arith}
-use lib.ListN.{length, take, drop, length-append, length-drop}
-use lib.Seq.{take_at, drop_at, length-take-le}
+use Rattle.std.proofs.Common.{◌≡◌, ℕ, ◌+◌, ◌*◌, ◌/◌, ◌≤◌, ◌<◌, List, [], ◌∷◌, ◌++◌, length, length-append, refl, ap, ◌∙◌, arith}
+use mathlib.Core.List.{append_assoc, append-nil}
 use Rattle.row.specs.declared.Row.{Row}
 use Rattle.refusals.specs.Refusals.{number_of}
 use Rattle.book.specs.declared.Book.{Book}
@@ -14,159 +9,90 @@ use Rattle.book.specs.declared.BookRefusal.TheVariants.{Form, Of}
 use Rattle.book.specs.Answers.{BookStep, Rows, refusal_in, refusal_told}
 use Rattle.book.specs.State.{Stepped}
 use Rattle.book.specs.State as book
-use Rattle.block.specs.Block.{second_of, seconds_from}
-use Rattle.block.specs.Bytes.{part}
-use Rattle.block.specs.Places.{block_size, per_block, second_size, second_at}
-use Rattle.block.proofs.Parts.{part_split, part_length}
-use Rattle.codec.specs.Put.{Put}
-use Rattle.codec.proofs.Puts.{both, kept, loosen, none}
-use Rattle.record.specs.Record.{most_seconds}
+use Rattle.block.specs.Block.{all_seconds}
+use Rattle.block.specs.Places.{per_block, second_size}
+use Rattle.block.proofs.Seconds.{one_more, no_more}
+use Rattle.codec.specs.declared.lent.Lent.{Lent}
+use Rattle.codec.specs.Lent.{HasRoom, Grown}
+use Rattle.codec.proofs.Lents.{both, loosen, none}
 use Rattle.tally.specs.declared.Tally.{Tally}
-use Rattle.tally.specs.Tally.{TallyWithin, TallyCounted}
+use Rattle.tally.specs.Tally.{TallyCounted}
 use Rattle.tally.proofs.Counts.{longer}
-use Rattle.report.specs.declared.run.Kept.{Kept}
 use Rattle.report.specs.declared.run.Plan.{Plan}
 use Rattle.report.specs.Text.{lines_of, second_room, block_room}
-use Rattle.report.specs.Running.{Verdict, Accepted, Refused, keep, refused_at, answered, second_in, after, followed, seconds_in, run_of, KeptReady, Adds}
+use Rattle.report.specs.Kept.{Kept, keep, KeptReady}
+use Rattle.report.specs.Running.{Verdict, Accepted, Refused, refused_at, answered, second_in, after, seconds_in, Adds}
 use Rattle.report.proofs.Counting.{Counts, counts}
 
 -- ---- one second
 
-second_is : (p : Plan) (k : Kept) (s : List ℕ) {r : BookStep} → Stepped k.book (book.second_of p.owner s) r → second_in p k s ≡ answered p k r.book r.answer
-unfolding second_in
-second_is p k s {r} f = rw (← f.is)
+module _ (p : Plan) (k : Kept) (s : List ℕ) {r : BookStep} (f : Stepped k.book (book.second_of p.owner s) r) where
+  second_is : second_in p k s ≡ answered p k r.book r.answer
+  unfolding second_in
+  second_is = rw (← f.is)
 
-counted : (p : Plan) (k : Kept) (s : List ℕ) {r : BookStep} → Stepped k.book (book.second_of p.owner s) r → Counts k.book r
-counted p k s f = rw f.is (counts k.book (book.second_of p.owner s))
+  counted : Counts k.book r
+  counted = rw f.is (counts k.book (book.second_of p.owner s))
 
--- the counts of a tally fit, with a second more
-pub has_room : (k : Kept) → KeptReady k → TallyWithin most_seconds k.tally
-has_room k f = longer k.book.unit.seconds most_seconds f.book.unit.count k.tally f.counts
+  module _ {u x y : Row} {q : Tally} (is : r.answer ≡ Rows u x y) (g : TallyCounted k.tally u x y q) where
+    pub taken : {t v : Lent} → Grown second_room t v (lines_of p.form k.book.unit.seconds u x y) → Adds second_room t v (keep r.book q) Accepted (second_in p k s)
+    taken put = rw (second_is, is) (record { kept = rw g.is; verdict = refl; text = put })
 
-pub taken : (p : Plan) {k : Kept} {s b e : List ℕ} {r : BookStep} {u x y : Row} {q : Tally} {used n : ℕ} → KeptReady k → Stepped k.book (book.second_of p.owner s) r → r.answer ≡ Rows u x y → TallyCounted k.tally u x y q → Put second_room b e used n (lines_of p.form k.book.unit.seconds u x y) → Adds second_room b e used (run_of (keep r.book q) n Accepted) (second_in p k s)
-taken p {k} {s} {r = r} {u} {x} {y} {q} ready f is g put =
-    rw (second_is p k s f, is)
-    (record {
-      kept = rw g.is;
-      verdict = refl;
-      text = put;
-      ready = record { book = f.ready; counts = rw ((counted p k s f).one_more u x y is) (g.grows k.book.unit.seconds ready.counts) };
-    })
+    pub taken_ready : KeptReady k → KeptReady (keep r.book q)
+    taken_ready ready = record { book = f.ready; counts = rw (counted.one_more u x y is) (g.grows k.book.unit.seconds ready.counts) }
 
-pub turned_down : (p : Plan) {k : Kept} {s b : List ℕ} {r : BookStep} {used n : ℕ} → KeptReady k → Stepped k.book (book.second_of p.owner s) r → answered p k r.book r.answer ≡ refused_at (keep r.book k.tally) n → used ≤ length b → Adds second_room b b used (run_of (keep r.book k.tally) used (Refused n)) (second_in p k s)
-turned_down p {k} {s} {b} {r} {used = used} ready f is h =
-    rw (second_is p k s f, is)
-    (record {
-      kept = refl;
-      verdict = refl;
-      text = loosen (omega arith) (none b used h);
-      ready = record { book = f.ready; counts = longer _ _ (counted p k s f).least k.tally ready.counts };
-    })
+  pub turned_down : {t : Lent} {n : ℕ} → answered p k r.book r.answer ≡ refused_at (keep r.book k.tally) n → t.at ≤ length t.buf.now → Adds second_room t t (keep r.book k.tally) (Refused n) (second_in p k s)
+  turned_down {t} is h = rw (second_is, is) (record { kept = refl; verdict = refl; text = loosen (omega arith) (none t h) })
+
+  pub turned_down_ready : KeptReady k → KeptReady (keep r.book k.tally)
+  turned_down_ready ready = record { book = f.ready; counts = longer _ _ counted.least k.tally ready.counts }
 
 -- a refusal of the book by its number
 pub refusal_is : (p : Plan) (k : Kept) (b : Book) (e : BookRefusal) → answered p k b (refusal_told e) ≡ refused_at (keep b k.tally) (number_of (refusal_in e))
 refusal_is p k b (Form e) = refl
 refusal_is p k b (Of who e) = refl
 
--- ---- the seconds that are left
+-- ---- the seconds so far, and those whose bytes are left
 
--- the next of them, where i are before it
-pub second_next : (s : List ℕ) (count i : ℕ) {x after : List ℕ} → length s ≡ block_size → count ≤ per_block → i < count → part s (second_at i) (second_at count) ≡ x ++ after → length x ≡ second_size → (x ≡ second_of s i) × (after ≡ part s (second_at (i + 1)) (second_at count))
-second_next s count i {x} {after} whole few h is size =
-    let rest = length-drop (second_at i) s in
-    let len : length (second_of s i) ≡ second_size = length-take-le second_size (drop (second_at i) s) (omega arith) in
-    let step : second_at (i + 1) - second_at i ≡ second_size = omega arith in
-    let split : second_of s i ++ part s (second_at (i + 1)) (second_at count) ≡ x ++ after =
-    ap (λ (n : ℕ). take n (drop (second_at i) s) ++ part s (second_at (i + 1)) (second_at count)) (sym step)
-    ∙ sym (part_split s (second_at i) (second_at (i + 1)) (second_at count) (omega arith) (omega arith))
-    ∙ is in
-    (sym (take_at x after second_size size) ∙ ap (take second_size) (sym split) ∙ take_at (second_of s i) _ second_size len, sym (drop_at x after second_size size) ∙ ap (drop second_size) (sym split) ∙ drop_at (second_of s i) _ second_size len)
-
--- how many bytes they have
-pub left_length : (s : List ℕ) (count i : ℕ) → length s ≡ block_size → count ≤ per_block → length (part s (second_at i) (second_at count)) ≡ second_at count - second_at i
-left_length s count i whole few = part_length s (second_at i) (second_at count) (omega arith)
-
--- ---- the seconds so far, and the rest
-
--- seconds 0 to i - 1 of a block's `count` were accepted: they added `added` up to byte `used`, and left `now`; all of them give that and what the rest gives
-pub record Through (p : Plan) (k : Kept) (s : List ℕ) (count : ℕ) (b e : List ℕ) (used : ℕ) (now : Kept) (end i : ℕ) : Type 0 where
+-- the seconds of the bytes s before the last ones, `rest`, were accepted: they put `added` into the lent buffer t, that is v, and left `now`; all of
+-- them give that and what the rest gives
+pub record Left (p : Plan) (k : Kept) (s : List ℕ) (t : Lent) (now : Kept) (v : Lent) (rest : List ℕ) : Type 0 where
   pub added : List ℕ
-  pub within : i ≤ count
-  pub put : Put (i * second_room) b e used end added
-  pub whole : seconds_in p k (seconds_from s 0 count) ≡ after added (seconds_in p now (seconds_from s i (count - i)))
-  pub same : length e ≡ length b
-  pub ready : KeptReady now
+  pub used : ℕ
+  pub put : Grown used t v added
+  pub few : used + length rest / second_size * second_room ≤ block_room
+  pub whole : seconds_in p k (all_seconds s) ≡ after added (seconds_in p now (all_seconds rest))
 
-start : {p : Plan} {k : Kept} {s b : List ℕ} {count used : ℕ} → KeptReady k → used ≤ length b → Through p k s count b b used k used 0
-start {p} {k} {s} {b} {count} {used} h room =
-    let all : count - 0 ≡ count = omega arith in
-    record { added = []; within = omega arith; put = loosen (omega arith) (none b used room); whole = rw all; same = refl; ready = h }
+pub all_left : {p : Plan} {k : Kept} {s : List ℕ} {t : Lent} → length s ≤ second_size * per_block → HasRoom block_room t → Left p k s t k t s
+all_left {t = t} short room = record { added = []; used = 0; put = none t (omega (arith, room)); few = omega (arith, short); whole = refl }
 
--- one second more
-next : (p : Plan) (k : Kept) (s : List ℕ) (count i : ℕ) → i < count → seconds_in p k (seconds_from s i (count - i)) ≡ followed (second_in p k (second_of s i)) (second_in p k (second_of s i)).verdict (seconds_in p (second_in p k (second_of s i)).kept (seconds_from s (i + 1) (count - (i + 1))))
-unfolding seconds_in seconds_from
-next p k s count i h =
-    let more : count - i ≡ suc (count - (i + 1)) = omega arith in
-    rw (more, add-one)
+module _ {p : Plan} {k now : Kept} {s rest : List ℕ} {t u : Lent} (f : Left p k s t now u rest) (x later : List ℕ) (is : rest ≡ x ++ later) (size : length x ≡ second_size) where
+  more : all_seconds rest ≡ x ∷ all_seconds later
+  more = ap all_seconds is ∙ one_more x later size
 
-module _ {p : Plan} {k now new : Kept} {s b c e : List ℕ} {count used end last i : ℕ} {v : Verdict} {t : List ℕ} (f : Through p k s count b c used now end i) (h : i < count) (is : t ≡ second_of s i) (d : Adds second_room c e end (run_of new last v) (second_in p now t)) where
-  g : Adds second_room c e end (run_of new last v) (second_in p now (second_of s i))
-  g = rw is at d
+  fewer : length rest / second_size ≡ length later / second_size + 1
+  fewer = let len = ap length is ∙ length-append x later in omega (arith, size)
 
-  put_more : Put ((i + 1) * second_room) b e used last (f.added ++ (second_in p now (second_of s i)).text)
-  put_more = loosen (omega arith) (both f.put g.text)
+  module _ {new : Kept} {v : Lent} {w : Verdict} (d : Adds second_room u v new w (second_in p now x)) where
+    pub one_less : w ≡ Accepted → Left p k s t new v later
+    unfolding seconds_in
+    one_less a =
+        record {
+          added = f.added ++ (second_in p now x).text;
+          used = f.used + second_room;
+          put = both f.put d.text;
+          few = omega (arith, f.few, fewer);
+          whole = f.whole ∙ rw (more, ← d.verdict, a, ← d.kept) (rw append_assoc);
+        }
 
-  onward : v ≡ Accepted → Through p k s count b e used new last (i + 1)
-  onward a =
-      record {
-        added = f.added ++ (second_in p now (second_of s i)).text;
-        within = omega arith;
-        put = put_more;
-        whole = f.whole ∙ ap (after f.added) (next p now s count i h) ∙ rw (← g.verdict, a, ← g.kept) (rw append_assoc);
-        same = kept g.text ∙ f.same;
-        ready = g.ready;
-      }
+    pub one_refused : {n : ℕ} → w ≡ Refused n → Adds block_room t v new w (seconds_in p k (all_seconds s))
+    unfolding seconds_in
+    one_refused a =
+        let all : seconds_in p k (all_seconds s) ≡ after f.added (second_in p now x) = f.whole ∙ rw (more, ← d.verdict, a) in
+        rw all (record { kept = d.kept; verdict = d.verdict; text = loosen (omega (arith, f.few, fewer)) (both f.put d.text) })
 
-  stopped : {n : ℕ} → count ≤ per_block → v ≡ Refused n → Adds block_room b e used (run_of new last v) (seconds_in p k (seconds_from s 0 count))
-  stopped few a =
-      let all : seconds_in p k (seconds_from s 0 count) ≡ after f.added (second_in p now (second_of s i)) =
-      f.whole ∙ ap (after f.added) (next p now s count i h ∙ rw (← g.verdict, a)) in
-      rw all (record { kept = g.kept; verdict = g.verdict; text = loosen (omega arith) put_more; ready = g.ready })
-
-finished : {p : Plan} {k now : Kept} {s b e : List ℕ} {count used end i : ℕ} → Through p k s count b e used now end i → count ≤ i → count ≤ per_block → Adds block_room b e used (run_of now end Accepted) (seconds_in p k (seconds_from s 0 count))
-unfolding seconds_in seconds_from
-finished {p} {k} {s} {count = count} {i = i} f h few =
-    let no_more : count - i ≡ 0 = omega arith in
-    let all = rw (no_more, append-nil) at f.whole in
-    rw all (record { kept = refl; verdict = refl; text = loosen (omega arith) f.put; ready = f.ready })
-
--- ---- likewise, by the bytes of the seconds that are left
-
-pub record Left (p : Plan) (k : Kept) (s : List ℕ) (count : ℕ) (b e : List ℕ) (used : ℕ) (now : Kept) (end : ℕ) (rest : List ℕ) : Type 0 where
-  pub before : ℕ
-  pub through : Through p k s count b e used now end before
-  pub bytes : rest ≡ part s (second_at before) (second_at count)
-
-pub all_left : {p : Plan} {k : Kept} {s b rest : List ℕ} {count used : ℕ} → KeptReady k → used ≤ length b → rest ≡ part s (second_at 0) (second_at count) → Left p k s count b b used k used rest
-all_left ready room is = record { before = 0; through = start ready room; bytes = is }
-
-module _ {p : Plan} {k now new : Kept} {s b c e rest : List ℕ} {count used end last : ℕ} {v : Verdict} (whole : length s ≡ block_size) (few : count ≤ per_block) (f : Left p k s count b c used now end rest) (x after : List ℕ) (is : rest ≡ x ++ after) (size : length x ≡ second_size) (d : Adds second_room c e end (run_of new last v) (second_in p now x)) where
-  some : f.before < count
-  some =
-      let len : length rest ≡ length x + length after = ap length is ∙ length-append x after in
-      let all : length rest ≡ second_at count - second_at f.before = ap length f.bytes ∙ left_length s count f.before whole few in
-      omega (arith, size)
-
-  taken_next : (x ≡ second_of s f.before) × (after ≡ part s (second_at (f.before + 1)) (second_at count))
-  taken_next = second_next s count f.before whole few some (sym f.bytes ∙ is) size
-
-  pub one_less : v ≡ Accepted → Left p k s count b e used new last after
-  one_less a = record { before = f.before + 1; through = onward f.through some taken_next.0 d a; bytes = taken_next.1 }
-
-  pub one_refused : {n : ℕ} → v ≡ Refused n → Adds block_room b e used (run_of new last v) (seconds_in p k (seconds_from s 0 count))
-  one_refused a = stopped f.through some taken_next.0 d few a
-
-pub none_left : {p : Plan} {k now : Kept} {s b e rest : List ℕ} {count used end : ℕ} → length s ≡ block_size → count ≤ per_block → Left p k s count b e used now end rest → length rest < second_size → Adds block_room b e used (run_of now end Accepted) (seconds_in p k (seconds_from s 0 count))
-none_left {s = s} {count = count} whole few f h =
-    let all = ap length f.bytes ∙ left_length s count f.before whole few in
-    finished f.through (omega (arith, all, f.through.within)) few
+pub none_left : {p : Plan} {k now : Kept} {s rest : List ℕ} {t v : Lent} → Left p k s t now v rest → length rest < second_size → Adds block_room t v now Accepted (seconds_in p k (all_seconds s))
+unfolding seconds_in
+none_left {rest = rest} f h =
+    let all = rw (no_more rest h, append-nil) at f.whole in
+    rw all (record { kept = refl; verdict = refl; text = loosen (omega (arith, f.few)) f.put })

@@ -17,7 +17,7 @@ use Rattle.book.specs.State.{fresh}
 use Rattle.tally.specs.Tally.{zero}
 use Rattle.line.specs.Short.{short_text}
 use Rattle.report.specs.declared.Form.{Form}
-use Rattle.report.specs.Running.{keep}
+use Rattle.report.specs.Kept.{keep}
 use Rattle.report.specs.Counts.{kept_of, kept_after}
 
 -- wherever a kind is on, a plant of row r has no line in its second t exactly when its error lies within the summed bands

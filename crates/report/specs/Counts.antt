@@ -12,8 +12,8 @@ use Rattle.book.specs.Rows.{unit_row_at, a_row_at, b_row_at}
 use Rattle.book.specs.State.{state_of}
 use Rattle.tally.specs.declared.Tally.{Tally}
 use Rattle.report.specs.declared.Form.{Form}
-use Rattle.report.specs.declared.run.Kept.{Kept}
-use Rattle.report.specs.Running.{keep, second_in}
+use Rattle.report.specs.Kept.{Kept, keep}
+use Rattle.report.specs.Running.{second_in}
 
 abbrev pub added_over : (History → BookSecond → ℕ) → History → ℕ
 added_over f [] = 0

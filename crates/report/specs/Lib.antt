@@ -1,4 +1,5 @@
 pub mod Text
+pub mod Kept
 pub mod Running
 pub mod Counts
 pub mod Claims

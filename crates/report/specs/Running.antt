@@ -5,13 +5,13 @@ use Rattle.refusals.specs.Refusals.{number_of}
 use Rattle.book.specs.declared.Book.{Book}
 use Rattle.book.specs.Answers as answer
 use Rattle.book.specs.Answers.{BookAnswer}
-use Rattle.book.specs.State.{step_in, Ready}
+use Rattle.book.specs.State.{step_in}
 use Rattle.book.specs.State as book
-use Rattle.tally.specs.declared.Tally.{Tally}
-use Rattle.tally.specs.Tally.{tally_with, TallyWithin}
+use Rattle.tally.specs.Tally.{tally_with}
 use Rattle.block.specs.Block.{block_number, count_of, seconds_from}
-use Rattle.codec.specs.Put.{Put}
-use Rattle.report.specs.declared.run.Kept.{Kept}
+use Rattle.codec.specs.declared.lent.Lent.{Lent}
+use Rattle.codec.specs.Lent.{Grown}
+use Rattle.report.specs.Kept.{Kept, keep}
 use Rattle.report.specs.declared.run.Plan.{Plan}
 use Rattle.report.specs.Text.{lines_of}
 
@@ -28,9 +28,6 @@ verdict_told (Ok x) = Accepted
 verdict_told (Err e) = Refused (number_of e)
 
 -- ---- the seconds of a block
-
-abbrev pub keep : Book → Tally → Kept
-keep k q = record { book = k; tally = q }
 
 pub record Ran : Type 0 where
   pub text : List ℕ
@@ -81,27 +78,8 @@ block_in p n k s = block_by (block_number s p.seconds n) p k s
 
 -- ---- what the operations answer
 
--- where a run stands: `used` bytes of the buffer wait to be written
-pub record Run : Type 0 where
-  pub book : Book
-  pub tally : Tally
-  pub used : ℕ
-  pub verdict : Verdict
-
-abbrev pub run_of : Kept → ℕ → Verdict → Run
-run_of k used v = record { book = k.book; tally = k.tally; used = used; verdict = v }
-
-abbrev pub kept_in : Run → Kept
-kept_in r = keep r.book r.tally
-
--- the counts are those of the seconds that the book counts
-pub record KeptReady (k : Kept) : Type 0 where
-  pub book : Ready k.book
-  pub counts : TallyWithin k.book.unit.seconds k.tally
-
--- with text of at most m bytes put after the `used` ones of the buffer b, the buffer is e
-pub record Adds (m : ℕ) (b e : List ℕ) (used : ℕ) (r : Run) (w : Ran) : Type 0 where
-  pub kept : kept_in r ≡ w.kept
-  pub verdict : r.verdict ≡ w.verdict
-  pub text : Put m b e used r.used w.text
-  pub ready : KeptReady (kept_in r)
+-- with text of at most m bytes put into the lent buffer t, that is u; k is kept, and v is the verdict
+pub record Adds (m : ℕ) (t u : Lent) (k : Kept) (v : Verdict) (w : Ran) : Type 0 where
+  pub kept : k ≡ w.kept
+  pub verdict : v ≡ w.verdict
+  pub text : Grown m t u w.text

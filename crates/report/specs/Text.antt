@@ -8,7 +8,8 @@ use Rattle.line.specs.Line.{second_text, row_text, sum_text, refusal_text}
 use Rattle.line.specs.Short.{short_text, counts_text}
 use Rattle.line.specs.Shares.{shares_text}
 use Rattle.line.specs.Widths.{line_room, row_room}
-use Rattle.codec.specs.Put.{Put}
+use Rattle.codec.specs.declared.lent.Lent.{Lent}
+use Rattle.codec.specs.Lent.{Grown}
 use Rattle.tally.specs.declared.Tally.{Tally}
 use Rattle.report.specs.declared.Form.{Form}
 use Rattle.report.specs.declared.Form.TheVariants.{Line, Figures, Short, Shares}
@@ -18,21 +19,21 @@ use Rattle.report.specs.declared.lines.TextLine.TheVariants as text
 -- each line's text, and the least room that its writer takes
 abbrev pub text_of : TextLine → List ℕ
 text_of (text.Second t u a b) = second_text t u a b
-text_of (text.Plant t letter x) = row_text t letter x
+text_of (text.Plant x) = row_text x.second x.letter x.row
 text_of (text.Sums s) = sum_text s
 text_of (text.Refusal e t) = refusal_text (number_of e) t
-text_of (text.Short t letter x) = short_text t letter x
+text_of (text.Short x) = short_text x.second x.letter x.row
 text_of (text.Counts letter c) = counts_text letter c
-text_of (text.Shares t letter x) = shares_text t letter x
+text_of (text.Shares x) = shares_text x.second x.letter x.row
 
 abbrev pub room_of : TextLine → ℕ
 room_of (text.Second t u a b) = line_room
-room_of (text.Plant t letter x) = row_room
+room_of (text.Plant x) = row_room
 room_of (text.Sums s) = line_room
 room_of (text.Refusal e t) = line_room
-room_of (text.Short t letter x) = row_room
+room_of (text.Short x) = row_room
 room_of (text.Counts letter c) = row_room
-room_of (text.Shares t letter x) = row_room
+room_of (text.Shares x) = row_room
 
 -- the accepted second t: its line, or a line with every figure for U, A and B each, or a line for each kind outside its band, or a line with what
 -- was shared for U, A and B each
@@ -63,11 +64,11 @@ block_room = per_block * second_room
 -- ---- three lines
 
 -- the lines of U, A and B, each as `Gives` has it from its letter and what is told of the plant, are put one after the other
-pub record PlantsPut {T : Type 0} (Gives : ℕ → T → TextLine → Type 0) (unit a b : T) (buf e : List ℕ) (at r : ℕ) : Type 0 where
+pub record PlantsPut {T : Type 0} (Gives : ℕ → T → TextLine → Type 0) (unit a b : T) (t v : Lent) : Type 0 where
   pub u : TextLine
   pub x : TextLine
   pub y : TextLine
   pub gives_u : Gives (code "U") unit u
   pub gives_a : Gives (code "A") a x
   pub gives_b : Gives (code "B") b y
-  pub put : Put second_room buf e at r (text_of u ++ (text_of x ++ text_of y))
+  pub put : Grown second_room t v (text_of u ++ (text_of x ++ text_of y))

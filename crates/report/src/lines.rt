@@ -1,12 +1,13 @@
-// The lines of a second and the last line, appended to the text that waits.
-ghost use Rattle.std.specs.Prelude.{◌≡◌, ◌+◌, ◌≤◌, length};
+// The lines of a second and the last line, put after the text that waits in a lent buffer.
+ghost use Rattle.codec.specs.Lent.{HasRoom, Grown};
 ghost use Rattle.line.specs.Lined.{Lined};
-ghost use Rattle.codec.specs.Put.{Put};
 ghost use Rattle.line.specs.Widths.{row_room};
 ghost use Rattle.report.specs.Text.{text_of, room_of, lines_of, tally_text, counts_of, second_room, PlantsPut};
 
 use crate::Form;
 use book::BookRows;
+use codec::Lent;
+use line::PlantSecond;
 use refusals::Refusal;
 use row::{PlantCounts, Row, Sums};
 use tally::Tally;
@@ -20,30 +21,18 @@ pub enum TextLine {
         a: Row,
         b: Row,
     },
-    Plant {
-        second: u32,
-        letter: u8,
-        row: Row,
-    },
+    Plant(PlantSecond),
     Sums(Sums),
     Refusal {
         refusal: Refusal,
         seconds: u32,
     },
-    Short {
-        second: u32,
-        letter: u8,
-        row: Row,
-    },
+    Short(PlantSecond),
     Counts {
         letter: u8,
         counts: PlantCounts,
     },
-    Shares {
-        second: u32,
-        letter: u8,
-        row: Row,
-    },
+    Shares(PlantSecond),
 }
 
 fn write(buf: &mut [u8], text: TextLine) -> Result<usize, Refusal>
@@ -51,105 +40,83 @@ fn write(buf: &mut [u8], text: TextLine) -> Result<usize, Refusal>
 {
     match text {
         TextLine::Second { second, unit, a, b } => line::second_line(buf, second, unit, a, b),
-        TextLine::Plant {
-            second,
-            letter,
-            row,
-        } => line::plant_line(buf, second, letter, row),
+        TextLine::Plant(x) => line::plant_line(buf, x),
         TextLine::Sums(sums) => line::sum_line(buf, sums),
         TextLine::Refusal { refusal, seconds } => {
             line::refusal_line(buf, refusal.number(), seconds)
         }
-        TextLine::Short {
-            second,
-            letter,
-            row,
-        } => line::plant_short(buf, second, letter, row),
+        TextLine::Short(x) => line::plant_short(buf, x),
         TextLine::Counts { letter, counts } => line::plant_counts(buf, letter, counts),
-        TextLine::Shares {
-            second,
-            letter,
-            row,
-        } => line::plant_shares(buf, second, letter, row),
+        TextLine::Shares(x) => line::plant_shares(buf, x),
     }
 }
 
-// Appends a line, and answers where the next one goes.
-pub fn add(out: &mut [u8], at: usize, text: TextLine) -> usize
-    requires { at + row_room ≤ length out.old }
-    ensures { Put row_room out.old out.new at result (text_of text) }
+// A line more.
+pub fn add(text: &mut Lent, line: TextLine)
+    requires { HasRoom row_room text.old }
+    ensures { Grown row_room text.old text.new (text_of line) }
 {
-    at + write(&mut out[at..], text).unwrap()
+    let n = write(&mut text.buf[text.at..], line).unwrap();
+    text.at += n;
 }
 
 // The lines of U, A and B, one after the other, each as `line` gives it from its letter and what is told of the plant.
-fn add_plants<T, F: Fn(u8, T) -> TextLine>(
-    out: &mut [u8],
-    at: usize,
-    plants: (T, T, T),
-    line: F,
-) -> usize
+fn add_plants<T, F: Fn(u8, T) -> TextLine>(text: &mut Lent, plants: (T, T, T), line: F)
     requires callable { F.IsAlwaysCallable line }
-    requires room { at + second_room ≤ length out.old }
-    ensures { PlantsPut (F.post line) plants.0 plants.1 plants.2 out.old out.new at result }
+    requires room { HasRoom second_room text.old }
+    ensures { PlantsPut (F.post line) plants.0 plants.1 plants.2 text.old text.new }
 {
     let (unit, a, b) = plants;
-    let at = add(out, at, line(b'U', unit));
-    let at = add(out, at, line(b'A', a));
-    add(out, at, line(b'B', b))
+    add(text, line(b'U', unit));
+    add(text, line(b'A', a));
+    add(text, line(b'B', b));
 }
 
-// Appends what stands before the last line: in the short form the counts, else nothing.
-pub fn add_counts(out: &mut [u8], at: usize, form: Form, tally: Tally) -> usize
-    requires { at + second_room ≤ length out.old }
-    ensures { Put second_room out.old out.new at result (counts_of form tally) }
+// What stands before the last line: in the short form the counts, else nothing.
+pub fn add_counts(text: &mut Lent, form: Form, tally: Tally)
+    requires { HasRoom second_room text.old }
+    ensures { Grown second_room text.old text.new (counts_of form tally) }
 {
     match form {
         Form::Short => {
             let plants = (tally.unit, tally.a, tally.b);
-            add_plants(out, at, plants, |letter, counts| {
+            add_plants(text, plants, |letter, counts| {
                 TextLine::Counts { letter, counts }
-            })
+            });
         }
-        Form::Line | Form::Figures | Form::Shares => at,
+        Form::Line | Form::Figures | Form::Shares => (),
     }
 }
 
-// Appends the lines of an accepted second.
-pub(crate) fn add_second(
-    out: &mut [u8],
-    at: usize,
-    form: Form,
-    second: u32,
-    rows: BookRows,
-) -> usize
-    requires { at + second_room ≤ length out.old }
-    ensures { Put second_room out.old out.new at result (lines_of form second rows.unit rows.a rows.b) }
+// The lines of an accepted second.
+pub(crate) fn add_second(text: &mut Lent, form: Form, second: u32, rows: BookRows)
+    requires { HasRoom second_room text.old }
+    ensures { Grown second_room text.old text.new (lines_of form second rows.unit rows.a rows.b) }
 {
     let BookRows { unit, a, b } = rows;
     let plants = (unit, a, b);
     match form {
-        Form::Line => add(out, at, TextLine::Second { second, unit, a, b }),
-        Form::Figures => add_plants(out, at, plants, |letter, row| {
-            TextLine::Plant {
+        Form::Line => add(text, TextLine::Second { second, unit, a, b }),
+        Form::Figures => add_plants(text, plants, |letter, row| {
+            TextLine::Plant(PlantSecond {
                 second,
                 letter,
                 row,
-            }
+            })
         }),
-        Form::Short => add_plants(out, at, plants, |letter, row| {
-            TextLine::Short {
+        Form::Short => add_plants(text, plants, |letter, row| {
+            TextLine::Short(PlantSecond {
                 second,
                 letter,
                 row,
-            }
+            })
         }),
-        Form::Shares => add_plants(out, at, plants, |letter, row| {
-            TextLine::Shares {
+        Form::Shares => add_plants(text, plants, |letter, row| {
+            TextLine::Shares(PlantSecond {
                 second,
                 letter,
                 row,
-            }
+            })
         }),
     }
 }

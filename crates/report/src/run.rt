@@ -1,18 +1,22 @@
 // A block run second by second: the text that it adds, what is kept after it, and its refusal.
-ghost use Rattle.std.specs.Prelude.{◌+◌, ◌≤◌, ◌≡◌, length};
+ghost use Rattle.std.specs.Prelude.{◌≡◌, ◌*◌, ◌≤◌, length};
 ghost use Rattle.sheet.specs.Sheet.{InRange};
+ghost use Rattle.codec.specs.Lent.{HasRoom};
 ghost use Rattle.book.specs.State.{fresh};
 ghost use Rattle.tally.specs.Tally.{zero};
-ghost use Rattle.block.specs.Places.{block_size, per_block};
-ghost use Rattle.block.specs.Block.{seconds_from};
+ghost use Rattle.block.specs.Places.{per_block, second_size};
+ghost use Rattle.block.specs.Block.{all_seconds};
 ghost use Rattle.report.specs.Text.{second_room, block_room};
-ghost use Rattle.report.specs.Running.{keep, run_of, verdict_told, second_in, seconds_in, block_in, KeptReady, Adds};
+ghost use Rattle.report.specs.Kept.{Kept as Held, keep, KeptReady};
+ghost use Rattle.report.specs.Running.{verdict_told, second_in, seconds_in, block_in, Adds};
 
 use crate::Form;
 use crate::lines::add_second;
 use book::Book;
+use codec::Lent;
 use refusals::Refusal;
 use sheet::Sheet;
+use std::marker::Model;
 use tally::Tally;
 
 // How a book is run: the form of its lines, and what its header gives.
@@ -30,71 +34,67 @@ pub struct Kept {
     pub tally: Tally,
 }
 
+// Seen as its two fields; the counts are always those of the book's seconds.
+impl Model for Kept {
+    ghost Value = { Held };
+
+    ghost view = { λ k. keep k.book k.tally };
+
+    ghost invariant = { λ k. KeptReady (keep k.book k.tally) };
+
+    ghost inverse = { λ v. record { book = v.book; tally = v.tally } };
+}
+
 impl Kept {
     // Before the first second, under a sheet whose figures are in range.
     pub fn new(sheet: Sheet) -> Kept
         requires { InRange sheet }
-        ensures { (result ≡ keep (fresh sheet) zero) × KeptReady result }
+        ensures { result ≡ keep (fresh sheet) zero }
     {
         Kept {
             book: Book::new(sheet),
             tally: Tally::new(),
         }
     }
-}
 
-// One book second: its lines go where the text in the lent buffer ends, at `used`; or its refusal. There is no heap, so the end stands beside the
-// buffer and the text is no String.
-pub fn run_second(
-    kept: &mut Kept,
-    plan: Plan,
-    bytes: &[u8],
-    out: &mut [u8],
-    used: &mut usize,
-) -> Result<(), Refusal>
-    requires { KeptReady kept.old × (used.old + second_room ≤ length out.old) }
-    ensures { Adds second_room out.old out.new used.old (run_of kept.new used.new (verdict_told result)) (second_in plan kept.old bytes.now) }
-{
-    let second = kept.book.unit.seconds;
-    let rows = match kept.book.second(plan.owner, bytes) {
-        Ok(rows) => rows,
-        Err(refusal) => return Err(refusal.refusal()),
-    };
-    kept.tally = kept.tally.with_second(rows.unit, rows.a, rows.b);
-    *used = add_second(out, *used, plan.form, second, rows);
-    Ok(())
-}
-
-// The seconds of a block, until one is refused.
-fn run_seconds(
-    kept: &mut Kept,
-    plan: Plan,
-    block: &[u8],
-    count: usize,
-    out: &mut [u8],
-    used: &mut usize,
-) -> Result<(), Refusal>
-    requires { KeptReady kept.old × (length block.now ≡ block_size) × (count ≤ per_block) × (used.old + block_room ≤ length out.old) }
-    ensures { Adds block_room out.old out.new used.old (run_of kept.new used.new (verdict_told result)) (seconds_in plan kept.old (seconds_from block.now 0 count)) }
-{
-    for second in block::body(block, count).chunks_exact(record::BOOK_SIZE) {
-        run_second(kept, plan, second, out, used)?;
+    // One book second: its lines, or its refusal.
+    pub fn run_second(&mut self, plan: Plan, bytes: &[u8], text: &mut Lent) -> Result<(), Refusal>
+        requires { HasRoom second_room text.old }
+        ensures { Adds second_room text.old text.new self.new (verdict_told result) (second_in plan self.old bytes.now) }
+    {
+        let second = self.book.unit.seconds;
+        let rows = match self.book.second(plan.owner, bytes) {
+            Ok(rows) => rows,
+            Err(refusal) => return Err(refusal.refusal()),
+        };
+        self.tally = self.tally.with_second(rows.unit, rows.a, rows.b);
+        add_second(text, plan.form, second, rows);
+        Ok(())
     }
-    Ok(())
-}
 
-// Block n as it was read: its seconds are run, or it is refused.
-pub fn run_block(
-    kept: &mut Kept,
-    plan: Plan,
-    n: u32,
-    block: &[u8],
-    out: &mut [u8],
-    used: &mut usize,
-) -> Result<(), Refusal>
-    requires { KeptReady kept.old × (used.old + block_room ≤ length out.old) }
-    ensures { Adds block_room out.old out.new used.old (run_of kept.new used.new (verdict_told result)) (block_in plan n kept.old block.now) }
-{
-    let count = block::read_block(block, plan.seconds, n)?;
-    run_seconds(kept, plan, block, count, out, used)
+    // The seconds of a block, until one is refused.
+    fn run_seconds(&mut self, plan: Plan, seconds: &[u8], text: &mut Lent) -> Result<(), Refusal>
+        requires { (length seconds.now ≤ second_size * per_block) × HasRoom block_room text.old }
+        ensures { Adds block_room text.old text.new self.new (verdict_told result) (seconds_in plan self.old (all_seconds seconds.now)) }
+    {
+        for second in seconds.chunks_exact(record::BOOK_SIZE) {
+            self.run_second(plan, second, text)?;
+        }
+        Ok(())
+    }
+
+    // Block n as it was read: its seconds are run, or it is refused.
+    pub fn run_block(
+        &mut self,
+        plan: Plan,
+        n: u32,
+        block: &[u8],
+        text: &mut Lent,
+    ) -> Result<(), Refusal>
+        requires { HasRoom block_room text.old }
+        ensures { Adds block_room text.old text.new self.new (verdict_told result) (block_in plan n self.old block.now) }
+    {
+        let seconds = block::read_block(block, plan.seconds, n)?;
+        self.run_seconds(plan, seconds, text)
+    }
 }

@@ -1,17 +1,15 @@
 -- What a read gives stands behind what was read before it, and both are the next of the reader's bytes.
-use Rattle.std.proofs.Common.{◌≡◌, ℕ, ◌+◌, ◌≤◌, List, ◌++◌, rules, length, take, sym, ap, ◌∙◌, subst, length-take-le}
+use Rattle.std.proofs.Common.{◌≡◌, ℕ, ◌+◌, ◌≤◌, List, ◌++◌, rules, length, take, sym, subst, arith}
 use Rattle.std.specs.Io.KnownBytes.{Consumes}
 use Rattle.std.proofs.KnownBytes.{Consumes-trans}
-use borrow.Rule.Slice.PartMut.{put_mid, post_of}
-use lib.Seq.{take-append-le, take-append-add}
+use borrow.Rule.Slice.PartMut.{put_mid}
+use lib.Seq.{take-append-add}
+use Rattle.std.proofs.lemmas.Grind.{common_steps}
 use Rattle.full_read.proofs.read_full.Goals as goal
 
 -- n bytes of `new`, which stand in b from `from` on
 received : (from k n : ℕ) (b new : List ℕ) → from ≤ length b → n ≤ length new → take (from + n) (put_mid from k b new) ≡ take from b ++ take n new
-received from k n b new h i =
-    ap (λ (m : ℕ). take (m + n) (put_mid from k b new)) (sym (length-take-le from b h))
-    ∙ take-append-add (take from b) (new ++ post_of from k b) n
-    ∙ ap (λ (l : List ℕ). take from b ++ l) (take-append-le n new (post_of from k b) i)
+received from k n b new h i = grind (arith, common_steps, take-append-add)
 
 pub loop-done-preserved : goal.loop-done-preserved
 loop-done-preserved g c =

@@ -1,10 +1,13 @@
 -- The fields, put one after the other, are what stands before the check.
-use Rattle.block.proofs.Puts.{block_put, block_front_length, close_put}
+use Rattle.std.proofs.Common.{rules, ◌∙◌}
+use Rattle.block.proofs.Puts.{block_put, block_front_length, checked}
 use Rattle.block.proofs.block_writer.put_block.Goals as goal
 
 pub returns : goal.returns
 returns c =
-    let n = c.args.n in
+    let lent = c.new-lent.ensures in
     let body = c.args.seconds.now in
-    let put = block_put n body c.put_u32-at.ensures c.put_byte-at.ensures c.put_zeros-at.ensures c.put_bytes-at.ensures c.put_zeros.ensures c.requires in
-    close_put (block_front_length n body c.requires) put c.put_check.ensures
+    let front = block_put c.args.n body lent.start c.put_u32.ensures c.put_byte.ensures c.put_zeros.ensures c.put_bytes.ensures c.put_zeros-2.ensures c.requires in
+    let same = c.put_check.ensures.same ∙ front.same ∙ lent.same in
+    let done = checked (search rules) lent.start (block_front_length c.args.n body c.requires) front c.put_check.ensures in
+    search rules

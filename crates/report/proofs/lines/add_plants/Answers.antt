@@ -1,5 +1,5 @@
 -- Three lines are put one after the other, each that which `line` gave.
-use Rattle.codec.proofs.Puts.{both}
+use Rattle.codec.proofs.Lents.{both}
 use Rattle.report.proofs.lines.add_plants.Goals as goal
 
 pub returns : goal.returns
@@ -11,5 +11,5 @@ returns g c =
       gives_u = c.line.ensures;
       gives_a = c.line-2.ensures;
       gives_b = c.line-3.ensures;
-      put = both c.add-at.ensures (both c.add-at-2.ensures c.add.ensures);
+      put = both c.add.ensures (both c.add-2.ensures c.add-3.ensures);
     }

@@ -3,11 +3,11 @@ use Rattle.std.proofs.Common.{◌≡◌}
 use Rattle.std.specs.Slice.Iter.{chunks_exact_rest, chunks_exact_size}
 use Rattle.block.specs.Places.{second_size}
 use Rattle.report.proofs.Seconds.{Left}
-use Rattle.report.proofs.run.run_seconds.Given as goal
+use Rattle.report.proofs.run.Kept.run_seconds.Given as goal
 
 abbrev pub invariant-loop-second : goal.invariant-loop-second
 invariant-loop-second l =
     (goal.iterator-loop-second).can_next l.second-iterator
     × (goal.iterator-loop-second).is_finite l.second-iterator
     × (chunks_exact_size l.second-iterator ≡ second_size)
-    × Left l.plan l.fn.kept l.block l.count l.fn.out l.out l.fn.used l.kept l.used (chunks_exact_rest l.second-iterator)
+    × Left l.plan l.fn.self l.seconds l.fn.text l.self l.text (chunks_exact_rest l.second-iterator)
