@@ -7,7 +7,6 @@ mod unit;
 
 ghost use Rattle.std.specs.Prelude.{◌≡◌, ◌%◌, eqb, length};
 ghost use Rattle.refusals.specs.Refusals.{told, number_in};
-ghost use Rattle.sheet.specs.Sheet.{InRange};
 ghost use Rattle.record.specs.Record.{size};
 ghost use Rattle.mfrr.specs.Signal.{quarter_hour};
 ghost use Rattle.book.specs.declared.BookRefusal.TheVariants.{Form, Of};
@@ -19,13 +18,11 @@ ghost use Rattle.book.specs.State.{second_of, fresh, Ready, PlantsStepped, Stepp
 
 pub use list::run;
 use plant::PlantState;
-use power::Kw;
-use record::KindBits;
 use refusals::Refusal;
 use row::{KwSeconds, Row, Sums};
-use sheet::Sheet;
-use sums::{due_in, fields_of, with_second};
-use unit::{added_to, others};
+use sheet::{FairSheet, Sheet};
+use sums::{due_in, with_second};
+use unit::added;
 
 // The plants of a book.
 #[derive(Clone, Copy, Debug, PartialEq, Eq)]
@@ -127,18 +124,16 @@ impl Book {
     pub fn open(sheet: Sheet) -> Result<Self, Refusal>
         ensures { OpenedUnder sheet (told result) }
     {
-        sheet.check()?;
-        Ok(Book::new(sheet))
+        Ok(Book::new(FairSheet::try_from(sheet)?))
     }
 
     // A fresh book under a sheet whose figures are in range.
     #[tactic(auto, using(crate::proofs::Sizes::sums_none), unfolding(crate::specs::State::fresh))]
-    pub fn new(sheet: Sheet) -> Self
-        requires { InRange sheet }
-        ensures { (result ≡ fresh sheet) × Ready result }
+    pub fn new(sheet: FairSheet) -> Self
+        ensures { (result ≡ fresh sheet.figures) × Ready result }
     {
         Book {
-            sheet,
+            sheet: sheet.figures,
             unit: PlantState::new(),
             a: PlantState::new(),
             b: PlantState::new(),
@@ -163,14 +158,14 @@ impl Book {
     }
 
     // A book second of any owner byte and any bytes. One that is turned down leaves the book as it was.
+    #[tactic(auto, using(crate::proofs::Form::whole))]
     pub fn second(&mut self, owner: u8, bytes: &[u8]) -> Result<BookRows, BookRefusal>
         requires { Ready self.old }
         ensures { Stepped self.old (second_of owner bytes.now) (record { answer = book_told result; book = self.new }) }
     {
         check_form(owner, bytes)?;
-        let (unit, pools) = bytes.split_at(record::SIZE);
-        let (a, b) = pools.split_at(record::SIZE);
-        self.plants(owner, unit, a, b)
+        let (parts, _) = bytes.as_chunks::<{ record::SIZE }>();
+        self.plants(owner, &parts[0], &parts[1], &parts[2])
     }
 
     // The unit first, then A, then B, by `let .. else` on each plant's answer (01, "What form each place needs"): the first refusal leaves the old
@@ -178,32 +173,27 @@ impl Book {
     fn plants(
         &mut self,
         owner: u8,
-        unit: &[u8],
-        a: &[u8],
-        b: &[u8],
+        unit: &[u8; record::SIZE],
+        a: &[u8; record::SIZE],
+        b: &[u8; record::SIZE],
     ) -> Result<BookRows, BookRefusal>
-        requires { Ready self.old × (length unit.now ≡ size) × (length a.now ≡ size) × (length b.now ≡ size) }
+        requires { Ready self.old }
         ensures { PlantsStepped self.old owner unit.now a.now b.now (record { answer = book_told result; book = self.new }) }
     {
         let mut next = *self;
-        let unit_answer = next.unit.second_with(self.sheet, unit, Kw(0), Kw(0));
+        let sheet = FairSheet {
+            figures: self.sheet,
+        };
+        let unit_answer = next.unit.second(sheet, unit);
         let Ok(unit_row) = unit_answer else {
             return Err(Plant::U.refuses(unit_answer.unwrap_err()));
         };
-        let point = fields_of(unit).working_point;
-        let sold = KindBits::from(owner);
-        let a_answer = next.a.second_with(
-            self.sheet,
-            a,
-            added_to(point, others(sold), unit_row),
-            point,
-        );
+        let (a_added, b_added) = added(owner, unit, unit_row);
+        let a_answer = next.a.second_with(sheet, a, a_added);
         let Ok(a_row) = a_answer else {
             return Err(Plant::A.refuses(a_answer.unwrap_err()));
         };
-        let b_answer = next
-            .b
-            .second_with(self.sheet, b, added_to(point, sold, unit_row), point);
+        let b_answer = next.b.second_with(sheet, b, b_added);
         let Ok(b_row) = b_answer else {
             return Err(Plant::B.refuses(b_answer.unwrap_err()));
         };
