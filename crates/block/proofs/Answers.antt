@@ -1,10 +1,6 @@
 -- What an answer says of its number. Assumes nothing.
-use mathlib.Core.Path.{◌≡◌, refl, ap}
-use mathlib.Core.Bool.{false, not}
-use mathlib.Core.List.{List}
-use Prim.Native.Nat.{ℕ, zero, suc}
-use lib.Dec.{eqb}
-use borrow.Author.Tests.{eqb-true, eq-eqb, not-false}
+use Rattle.std.proofs.Common.{◌≡◌, refl, ap, false, not, List, ℕ, zero, suc, eqb, eqb-true, eq-eqb}
+use borrow.Author.Tests.{not-false}
 use Rattle.numbers.specs.Rules.{differ}
 use Rattle.block.specs.Said.{values, answered}
 

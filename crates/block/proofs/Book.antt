@@ -1,11 +1,6 @@
 -- A whole book, written and read back block after block. Assumes nothing.
-use mathlib.Core.Path.{◌≡◌, refl, sym, ap, ◌∙◌}
-use mathlib.Core.List.{List, [], ◌∷◌, ◌++◌, append_assoc}
-use Prim.Native.Nat.{ℕ, zero, suc, ◌+◌, ◌*◌, ◌-◌, ◌≤◌, ◌<◌}
-use native.Mathlib.Omega.{arith}
-use native.Mathlib.Numerals.{unary_clauses}
-use lib.ListN.{length, take, drop, length-append, length-take, length-drop, take-append-drop}
-use lib.Seq.{take_at, drop_at, drop-drop}
+use Rattle.std.proofs.Common.{◌≡◌, refl, sym, ap, ◌∙◌, List, [], ◌∷◌, ◌++◌, append_assoc, ℕ, zero, suc, ◌+◌, ◌*◌, ◌-◌, ◌≤◌, ◌<◌, arith, length, take, drop, length-append, length-take, length-drop, take-append-drop, take_at, drop_at, drop-drop}
+use Rattle.std.proofs.Math.Numerals.{unary_clauses}
 use Rattle.block.specs.Places.{block_size, per_block, second_size, second_at}
 use Rattle.block.specs.Block.{count_of, due_in, block_number, second_of, seconds_from}
 use Rattle.block.specs.Layout.{count_in, header_front, header_bytes, block_front, block_bytes}

@@ -1,10 +1,7 @@
 -- A block is accepted exactly when it has the layout, byte for byte. Assumes nothing.
-use mathlib.Core.Path.{◌≡◌, refl, sym, ap, ◌∙◌}
-use mathlib.Core.List.{List, [], ◌∷◌, ◌++◌, append_assoc}
-use Prim.Native.Nat.{ℕ, ◌+◌, ◌*◌, ◌-◌, ◌≤◌, ◌<◌}
-use native.Mathlib.Omega.{arith}
-use lib.ListN.{length, get_or, take, drop, length-append, length-drop, length-replicate}
-use lib.Seq.{take_at, drop_at, drop-drop, drop-append-le, take-append-le}
+use Rattle.std.proofs.Common.{◌≡◌, refl, sym, ap, ◌∙◌, List, [], ◌∷◌, ◌++◌, append_assoc, ℕ, ◌+◌, ◌*◌, ◌-◌, ◌≤◌, ◌<◌, arith, length, get_or, take, drop, length-append, length-drop, take_at, drop_at, drop-drop}
+use Rattle.std.proofs.Math.ListN.{length-replicate}
+use Rattle.std.proofs.Math.Seq.{drop-append-le, take-append-le}
 use Rattle.codec.specs.Little.{u16_at, le4, Bytes}
 use Rattle.codec.proofs.Little.{le4_value}
 use Rattle.block.specs.Places.{check_at, name_at, version_at, version, spare_at, book_seconds_at, header_end, number_at, count_at, count_end, per_block, body_at, second_size, second_at}

@@ -1,13 +1,5 @@
 -- A part of a list, byte by byte; parts put together again. Assumes nothing.
-use mathlib.Core.Path.{◌≡◌, refl, sym, ap, ◌∙◌}
-use mathlib.Core.Bool.{true}
-use mathlib.Core.List.{List, [], ◌∷◌, ◌++◌}
-use Prim.Native.Nat.{ℕ, zero, suc, ◌+◌, ◌-◌, ◌≤◌, ◌<◌}
-use native.Mathlib.Omega.{arith}
-use lib.ListN.{length, get_or, length-take, length-drop, length-append}
-use lib.Dec.{eqb}
-use lib.Seq.{drop-cons, take-add, drop-drop, take_all, take_at, get_or-append-add}
-use borrow.Author.Tests.{eqb-true}
+use Rattle.std.proofs.Common.{◌≡◌, refl, sym, ap, ◌∙◌, true, List, [], ◌∷◌, ◌++◌, ℕ, zero, suc, ◌+◌, ◌-◌, ◌≤◌, ◌<◌, arith, length, get_or, length-take, length-drop, length-append, eqb, drop-cons, take-add, drop-drop, take_all, take_at, get_or-append-add, eqb-true}
 use Rattle.codec.specs.Little.{u32_at, le4, Bytes}
 use Rattle.codec.proofs.Little.{le4_value, four_bytes}
 use Rattle.block.specs.Places.{block_size, check_at}

@@ -1,10 +1,6 @@
 -- A block put together of its fields and its check. Assumes nothing.
-use mathlib.Core.Path.{◌≡◌, ap, ◌∙◌}
-use mathlib.Core.List.{List, [], ◌∷◌, ◌++◌, append-nil}
-use Prim.Native.Nat.{ℕ, ◌+◌, ◌*◌, ◌-◌, ◌≤◌}
-use native.Mathlib.Omega.{arith}
-use lib.Seq.{take_at}
-use lib.ListN.{length, take, drop, length-append, length-replicate, drop_of_length-le}
+use Rattle.std.proofs.Common.{◌≡◌, ap, ◌∙◌, List, [], ◌∷◌, ◌++◌, append-nil, ℕ, ◌+◌, ◌*◌, ◌-◌, ◌≤◌, arith, take_at, length, take, drop, length-append, drop_of_length-le}
+use Rattle.std.proofs.Math.ListN.{length-replicate}
 use Rattle.codec.specs.Little.{le2, le4}
 use Rattle.codec.specs.declared.lent.Lent.{Lent}
 use Rattle.codec.specs.Lent.{Grown}

@@ -1,10 +1,5 @@
 -- A header and a later block: what the writers write reads back, and what the readers accept is what the writers write. Assumes nothing.
-use mathlib.Core.Path.{◌≡◌, refl, sym, ap, ◌∙◌}
-use mathlib.Core.List.{List, [], ◌∷◌, ◌++◌, append_assoc}
-use Prim.Native.Nat.{ℕ, ◌+◌, ◌*◌, ◌-◌, ◌≤◌, ◌<◌}
-use native.Mathlib.Omega.{arith}
-use lib.ListN.{length, take, drop}
-use lib.Seq.{take_at, drop_at}
+use Rattle.std.proofs.Common.{◌≡◌, refl, sym, ap, ◌∙◌, List, [], ◌∷◌, ◌++◌, append_assoc, ℕ, ◌+◌, ◌*◌, ◌-◌, ◌≤◌, ◌<◌, arith, length, take, drop, take_at, drop_at}
 use Rattle.codec.specs.Little.{le4, Bytes}
 use Rattle.record.specs.Record.{most_seconds, all_kinds}
 use Rattle.block.specs.Places.{block_size, check_at, count_end, body_at, second_size, second_at}

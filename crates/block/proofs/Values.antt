@@ -1,5 +1,5 @@
 -- The values hold, by computing. Assumes nothing.
-use mathlib.Core.Path.{refl}
+use Rattle.std.proofs.Common.{refl}
 use Rattle.block.specs.Bytes.{all_zero}
 use Rattle.block.specs.Check.{weights, check_of}
 use Rattle.block.specs.Header.{header_number}

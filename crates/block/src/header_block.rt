@@ -13,7 +13,7 @@ const NAME_AT: usize = 0;
 
 const VERSION_AT: usize = 4;
 
-pub(crate) const VERSION: u32 = 1;
+pub(crate) const VERSION: u16 = 1;
 
 const OWNER_AT: usize = 6;
 

@@ -1,10 +1,5 @@
 -- The copy is how the bytes begin, and of a book of right form it is the book: block after block. Assumes nothing.
-use mathlib.Core.Path.{◌≡◌, refl, ap, ◌∙◌}
-use mathlib.Core.List.{List, [], ◌∷◌, ◌++◌}
-use Prim.Native.Nat.{ℕ, zero, suc, ◌+◌}
-use native.Mathlib.Omega.{arith}
-use lib.ListN.{length, take, drop, take-append-drop}
-use lib.Seq.{get_or-drop}
+use Rattle.std.proofs.Common.{◌≡◌, refl, ap, ◌∙◌, List, [], ◌∷◌, ◌++◌, ℕ, zero, suc, ◌+◌, arith, length, take, drop, take-append-drop, get_or-drop}
 use Rattle.codec.specs.Little.{Bytes}
 use Rattle.block.specs.Places.{block_size}
 use Rattle.block.specs.Bytes.{zeros}

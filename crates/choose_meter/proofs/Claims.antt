@@ -1,5 +1,5 @@
 -- The claims hold. Assumes nothing.
-use mathlib.Core.List.{[]}
+use Rattle.std.proofs.Common.{[]}
 use Rattle.choose_meter.specs.Claims.{Claims}
 use Rattle.choose_meter.proofs.Laws.{any_cut}
 

@@ -1,5 +1,5 @@
 -- Putting twice is putting once. Assumes nothing.
-use Rattle.std.proofs.Common.{◌≡◌, ℕ, ◌+◌, ◌≤◌, List, [], ◌++◌, length, take, refl, sym, ap, ◌∙◌}
+use Rattle.std.proofs.Common.{◌≡◌, ℕ, ◌+◌, ◌≤◌, List, [], ◌++◌, length, take, refl, ◌∙◌}
 use Rattle.codec.specs.declared.lent.Lent.{Lent}
 use Rattle.codec.specs.Lent.{Grown}
 use Rattle.codec.proofs.Puts as put

@@ -1,12 +1,6 @@
 -- Appending twice is appending once: `both` chains what two calls leave, so that a line's proof is a chain of its parts.
 -- Assumes nothing.
-use mathlib.Core.Path.{◌≡◌, sym, ap, ◌∙◌}
-use mathlib.Core.List.{List, [], ◌++◌, append_assoc}
-use Prim.Native.Nat.{ℕ, ◌+◌, ◌≤◌}
-use native.Mathlib.Nat.{add_assoc, add-zero, zero-add}
-use native.Mathlib.Omega.{arith}
-use lib.ListN.{length, take, drop, length-append, length-take, length-drop, take-append-drop}
-use lib.Seq.{take_at, drop_at, drop-drop, length-take-le}
+use Rattle.std.proofs.Common.{◌≡◌, sym, ap, ◌∙◌, List, [], ◌++◌, append_assoc, ℕ, ◌+◌, ◌≤◌, add_assoc, add-zero, zero-add, arith, length, take, drop, length-append, length-take, length-drop, take-append-drop, take_at, drop_at, drop-drop, length-take-le}
 use Rattle.codec.specs.Put.{over, Put}
 
 over_over : (b : List ℕ) (at : ℕ) (x y : List ℕ) → at ≤ length b → over (over b at x) (at + length x) y ≡ over b at (x ++ y)

@@ -1,5 +1,5 @@
 -- The values hold, by computing. Assumes nothing.
-use mathlib.Core.Path.{refl}
+use Rattle.std.proofs.Common.{refl}
 use Rattle.codec.specs.Little.{twos_complement}
 use Rattle.codec.specs.Values.{Values}
 

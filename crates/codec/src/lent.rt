@@ -1,5 +1,5 @@
 // A lent buffer that fills from its front: what is put stands before `at`, where the next byte goes.
-ghost use Rattle.std.specs.Prelude.{◌≡◌, ◌≤◌, ◌<◌, [], ◌∷◌, length, take};
+ghost use Rattle.std.specs.Prelude.{◌≡◌, ◌≤◌, [], ◌∷◌, length, take};
 ghost use Rattle.codec.specs.Little.{le2, le4};
 ghost use Rattle.codec.specs.Lent.{HasRoom, Grown};
 
@@ -44,11 +44,11 @@ impl<'a> Lent<'a> {
     }
 
     // A number's 2 bytes, the lowest first.
-    pub fn put_u16(&mut self, n: u32)
-        requires { HasRoom 2 self.old × (n < 65536) }
+    pub fn put_u16(&mut self, n: u16)
+        requires { HasRoom 2 self.old }
         ensures { Grown 2 self.old self.new (le2 n) }
     {
-        self.put_bytes(&(n as u16).to_le_bytes());
+        self.put_bytes(&n.to_le_bytes());
     }
 
     // A number's 4 bytes, the lowest first.

@@ -1,6 +1,5 @@
 -- A line's result and buffer, where there is room for it, from what was put. Assumes nothing.
-use Rattle.std.proofs.Common.{◌≡◌, ℕ, ◌≤◌, cond, ltb, List, ◌++◌, length, drop, Result, Ok, Err, ap, ◌∙◌, zero-add, arith}
-use borrow.Author.Tests.{le-ltb}
+use Rattle.std.proofs.Common.{◌≡◌, ℕ, ◌≤◌, cond, ltb, List, ◌++◌, length, drop, Result, Ok, Err, ap, ◌∙◌, zero-add, arith, le-ltb}
 use Rattle.refusals.specs.declared.Refusal.{Refusal}
 use Rattle.refusals.specs.Refusals.{Given, told}
 use Rattle.codec.specs.declared.lent.Lent.{Lent}

@@ -1,9 +1,8 @@
 -- What the library prints of a number is its text. Assumes nothing.
-use Rattle.std.proofs.Common.{◌≡◌, ℕ, suc, ◌^◌, ◌<◌, List, ◌∷◌, ℤ, pos, negsuc, nat_abs, SFits, w64, sym, ap, ◌∙◌, arith}
+use Rattle.std.proofs.Common.{◌≡◌, ℕ, suc, ◌^◌, ◌<◌, List, ◌∷◌, ℤ, pos, negsuc, nat_abs, SFits, w64, sym, ap, ◌∙◌, arith, lt-ltb, le-ltb}
 use Rattle.std.specs.Fmt.{decimal as printed, signed_decimal}
 use Rattle.std.proofs.lemmas.Fmt.{AppendsLastDigit, decimal_from_appends, length-decimal-le, length-decimal-le_succ}
 use lib.Signed.{nat_abs-le}
-use borrow.Author.Tests.{lt-ltb, le-ltb}
 use Rattle.codec.specs.declared.lent.Lent.{Lent}
 use Rattle.codec.specs.Lent.{Grown}
 use Rattle.line.specs.Text.{digits_in, digits, decimal}

@@ -1,13 +1,7 @@
 -- What holds of every answer. Assumes nothing.
-use mathlib.Core.Path.{◌≡◌, refl, sym, ap, ◌∙◌, subst}
-use mathlib.Core.Bool.{Bool, true, false, ◌&&◌}
-use mathlib.Core.List.{List, ◌++◌}
-use Prim.Native.Nat.{ℕ, zero, suc, ◌*◌, ◌≤◌, ◌<◌}
-use lib.Dec.{T}
-use lib.IntN.{ℤ, pos, negsuc, neg_ℤ}
-use lib.ListN.{length, take}
-use lib.Seq.{take-take, take-append_seam, length-take-le}
-use lib.Signed.{le_z}
+use Rattle.std.proofs.Common.{◌≡◌, refl, sym, ap, ◌∙◌, subst, Bool, true, false, ◌&&◌, List, ◌++◌, ℕ, zero, suc, ◌*◌, ◌≤◌, ◌<◌, T, ℤ, pos, negsuc, neg_ℤ, length, take, take-take, length-take-le}
+use Rattle.std.specs.Int.Signed.{le_z}
+use Rattle.std.proofs.Math.Seq.{take-append_seam}
 use lib.Ieee.{Float}
 use borrow.Author.Tests.{not-false}
 use Rattle.numbers.specs.Bounds.{Within}

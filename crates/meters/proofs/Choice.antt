@@ -1,15 +1,8 @@
 -- Laws of choosing. Assumes nothing.
-use mathlib.Core.Path.{◌≡◌, refl, sym, ap, ◌∙◌}
-use mathlib.Core.Bool.{Bool, true, false, not, cond, ◌&&◌, ◌||◌}
-use mathlib.Core.List.{List, [], ◌∷◌}
-use Prim.Native.Nat.{ℕ, ◌≤◌, ◌<◌}
-use Rattle.std.specs.Prelude.{fold}
-use native.Mathlib.Omega.{arith}
-use lib.Dec.{eqb, ltb}
-use borrow.Author.Tests.{ltb-false, eqb-false, ne_eqb, le-ltb}
-use lib.Signed.{lt_z}
+use Rattle.std.proofs.Common.{◌≡◌, refl, sym, ap, ◌∙◌, Bool, true, false, not, cond, ◌&&◌, ◌||◌, List, [], ◌∷◌, ℕ, ◌≤◌, ◌<◌, fold, arith, eqb, ltb, ltb-false, ne_eqb, le-ltb, pos}
+use Rattle.std.specs.Int.Signed.{lt_z}
+use borrow.Author.Tests.{eqb-false}
 use Rattle.meters.specs.declared.Meter.{Meter}
-use lib.IntN.{pos}
 use Rattle.numbers.proofs.Rules.{both_true}
 use Rattle.numbers.proofs.Test.{tests, or_no, or_false}
 use Rattle.meters.specs.Binary32.{finite, exact}

@@ -1,5 +1,5 @@
 -- The claims hold. Assumes nothing.
-use lib.ListN.{take}
+use Rattle.std.proofs.Common.{take}
 use lib.Ieee.{binary32, of_bits}
 use lib.Ieee.Fits.{sub-fits}
 use Rattle.meters.specs.Meters.{bits50}

@@ -1,9 +1,6 @@
 -- The code's tests of a reading and of an accuracy are the definitions'. Assumes nothing.
-use mathlib.Core.Path.{◌≡◌, refl, sym, ap, ◌∙◌, subst}
-use mathlib.Core.Bool.{Bool, true, false, ◌&&◌}
-use lib.Dec.{T}
-use lib.IntN.{pos, neg_ℤ}
-use lib.Signed.{le_z, lt_z}
+use Rattle.std.proofs.Common.{◌≡◌, refl, sym, ap, ◌∙◌, subst, Bool, true, false, ◌&&◌, T, pos, neg_ℤ}
+use Rattle.std.specs.Int.Signed.{le_z, lt_z}
 use lib.Ieee.{Float, nan, inf, fin, binary32, of_bits, to_bits, neg, lt, le, fits}
 use lib.Ieee.Bits.{of_bits-fits}
 use lib.Ieee.Scale as scale

@@ -1,18 +1,12 @@
 -- Rounding to whole mHz by the bits. Assumes nothing.
-use mathlib.Core.Path.{◌≡◌, refl, sym, ap, ◌∙◌, subst}
-use Prim.Native.Nat.{ℕ, zero, suc, ◌+◌, ◌-◌, ◌*◌, ◌/◌, ◌%◌, ◌^◌, ◌≤◌, ◌<◌, compare, Ordering}
-use native.Mathlib.Nat.{le_trans, le_of_eq, le_of_lt, lt_of_le_of_lt, not-le_of_lt, mul_assoc, mul_comm, mul_left_comm, mul-le-mul, mul-le-mul_right, div-eq_of_lt, mod-eq_of_lt, mod-lt, one-mul}
-use native.Mathlib.Numerals.{add-one}
-use native.Mathlib.Omega.{arith}
-use mathlib.Core.Bool.{Bool, true, false, not}
-use lib.Dec.{T, is_le, compare_is_eq, eqb, leb→le, nleb→lt, eqb→eq, eqb_refl, lit<, lit≤}
-use lib.Arith.{lt_of_le-ne}
-use lib.IntN.{pos, neg_ℤ}
-use lib.Pow.{pow-add, pow_pos, pow_mono}
+use Rattle.std.proofs.Common.{◌≡◌, refl, sym, ap, ◌∙◌, subst, ℕ, zero, suc, ◌+◌, ◌-◌, ◌*◌, ◌/◌, ◌%◌, ◌^◌, ◌≤◌, ◌<◌, le_trans, le_of_eq, le_of_lt, lt_of_le_of_lt, not-le_of_lt, mul_assoc, mul_comm, mul_left_comm, mul-le-mul, mul-le-mul_right, mod-eq_of_lt, mod-lt, one-mul, add-one, arith, Bool, true, false, not, T, eqb, leb→le, eqb→eq, lit<, lit≤, pos, neg_ℤ, pow-add, pow_pos, pow_mono, lt-ltb}
+use Rattle.std.specs.Int.Signed.{le_z}
+use Prim.Native.Nat.{compare, Ordering}
+use Rattle.std.proofs.Math.Nat.{div-eq_of_lt}
+use Rattle.std.proofs.Math.Dec.{is_le, compare_is_eq, nleb→lt, eqb_refl}
+use Rattle.std.proofs.Math.Arith.{lt_of_le-ne}
 use lib.Ieee.{nearest}
 use lib.Ieee.Nearest.{closest, closest_same, closest_mono}
-use lib.Signed.{le_z}
-use borrow.Author.Tests.{lt-ltb}
 use Rattle.numbers.proofs.Parts.{neg_nat}
 use Rattle.numbers.proofs.Test.{tests, flags}
 use Rattle.power.specs.Units.{most_deviation}

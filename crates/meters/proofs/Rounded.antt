@@ -1,11 +1,6 @@
 -- Whole mHz are the nearest ones, at a tie the even one. Assumes nothing.
-use mathlib.Core.Path.{◌≡◌, sym, ap, ◌∙◌, subst}
-use mathlib.Core.Logic.{◌⊎◌, inl, inr}
-use Prim.Native.Nat.{ℕ, suc, ◌+◌, ◌-◌, ◌*◌, ◌/◌, ◌%◌, ◌≤◌, ◌<◌, compare, Ordering}
-use native.Mathlib.Nat.{le_of_lt, zero-mul, one-mul, add-mul, suc-mul, div-add-mod', mod-lt, eq-zero-or-pos}
-use native.Mathlib.Omega.{arith}
-use lib.Dec.{lit<}
-use lib.IntN.{ℤ, pos, negsuc, neg_ℤ, nat_abs, ◌-ℤ◌}
+use Rattle.std.proofs.Common.{◌≡◌, sym, ap, ◌∙◌, subst, ◌⊎◌, inl, inr, ℕ, suc, ◌+◌, ◌-◌, ◌*◌, ◌/◌, ◌%◌, ◌≤◌, ◌<◌, le_of_lt, zero-mul, one-mul, add-mul, suc-mul, div-add-mod', mod-lt, eq-zero-or-pos, arith, lit<, ℤ, pos, negsuc, neg_ℤ, nat_abs, ◌-ℤ◌}
+use Prim.Native.Nat.{compare, Ordering}
 use lib.Ieee.{nearest}
 use Rattle.numbers.proofs.Fit.{abs_neg}
 use Rattle.numbers.proofs.Parts.{abs_nat, sub_nat, neg_nat, one_nat}

@@ -1,13 +1,7 @@
 -- The meter that counts is the first of those with the smallest figure. Assumes nothing.
-use mathlib.Core.Path.{◌≡◌, refl, sym, ap, ◌∙◌, subst}
-use mathlib.Core.Logic.{◌⊎◌, inl, inr}
-use mathlib.Core.Bool.{Bool, true, false, not, ◌||◌}
-use mathlib.Core.List.{List, [], ◌∷◌}
-use native.Mathlib.Omega.{arith}
-use lib.Dec.{T}
-use lib.IntN.{ℤ}
+use Rattle.std.proofs.Common.{◌≡◌, refl, sym, ap, ◌∙◌, subst, ◌⊎◌, inl, inr, Bool, true, false, not, ◌||◌, List, [], ◌∷◌, arith, T, ℤ, ◌≤ℤ◌, ◌<ℤ◌}
 use lib.Ieee.{Float}
-use lib.Signed.{◌≤ℤ◌, ◌<ℤ◌, ≤ℤ_refl, lt_z_yes, lt_z_no}
+use lib.Signed.{≤ℤ_refl, lt_z_yes, lt_z_no}
 use Rattle.numbers.proofs.Parts.{reads, shows}
 use Rattle.meters.specs.declared.Meter.{Meter}
 use Rattle.meters.specs.Binary32.{exact}

@@ -1,7 +1,6 @@
 -- What stands past the fourth place doesn't matter.
-use Rattle.std.proofs.Common.{◌≡◌, ◌≤◌, ◌<◌, ◌∙◌, ap, length, take, arith}
+use Rattle.std.proofs.Common.{◌≡◌, ◌≤◌, ◌<◌, ◌∙◌, ap, length, take, arith, eq-eqb, ne_eqb}
 use Rattle.std.proofs.Math.Nat.{sub-zero}
-use borrow.Author.Tests.{eq-eqb, ne_eqb}
 use Rattle.meters.specs.Meters.{most_meters, said_of}
 use Rattle.meters.proofs.Answers.{four_places, at_hand, too_many}
 use Rattle.choose_meter.specs.Records.{record_size, meters_in, number_in, said_in}

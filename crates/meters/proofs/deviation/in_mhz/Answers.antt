@@ -1,10 +1,8 @@
 -- The size in whole mHz, with the sign of the number.
-use Rattle.std.proofs.Common.{◌≡◌, ℕ, ◌*◌, ◌%◌, ◌^◌, ◌≤◌, ◌<◌, Bool, true, false, ◌&&◌, ℤ, pos, neg_ℤ, arith, sym, ap, ◌∙◌, subst}
-use native.Mathlib.Nat.{mod-lt}
-use lib.Pow.{pow_pos}
-use lib.Signed.{le_z}
+use Rattle.std.proofs.Common.{◌≡◌, ℕ, ◌*◌, ◌%◌, ◌^◌, ◌≤◌, ◌<◌, Bool, true, false, ◌&&◌, ℤ, pos, neg_ℤ, arith, sym, ap, ◌∙◌, subst, mod-lt, pow_pos, le-leb}
+use Rattle.std.specs.Int.Signed.{le_z}
 use lib.Ieee.{Float}
-use borrow.Author.Tests.{lt-leb, le-leb}
+use borrow.Author.Tests.{lt-leb}
 use Rattle.std.proofs.lemmas.Float.{T_from_true}
 use Rattle.numbers.proofs.Read.{same}
 use Rattle.numbers.proofs.Rules.{both_true}

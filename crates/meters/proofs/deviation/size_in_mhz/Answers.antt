@@ -1,6 +1,5 @@
 -- Below the field 116 it is 0, and else a quotient by a power of two.
-use Rattle.std.proofs.Common.{◌≡◌, ℕ, ◌+◌, ◌-◌, ◌*◌, ◌/◌, ◌%◌, ◌^◌, ◌≤◌, ◌<◌, sym, ap, ◌∙◌, subst, arith}
-use lib.Pow.{pow_pos, pow_mono}
+use Rattle.std.proofs.Common.{◌≡◌, ℕ, ◌+◌, ◌-◌, ◌*◌, ◌/◌, ◌%◌, ◌^◌, ◌≤◌, ◌<◌, sym, ap, ◌∙◌, subst, arith, pow_pos, pow_mono}
 use Rattle.power.specs.Units.{most_deviation}
 use Rattle.meters.specs.Binary32.{size_of, hertz, nearest_whole}
 use Rattle.meters.proofs.Round.{size_low, field_most, size_high, shifted, mhz_most}
