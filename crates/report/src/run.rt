@@ -1,6 +1,5 @@
 // A block run second by second: the text that it adds, what is kept after it, and its refusal.
 ghost use Rattle.std.specs.Prelude.{◌≡◌, ◌*◌, ◌≤◌, length};
-ghost use Rattle.sheet.specs.Sheet.{InRange};
 ghost use Rattle.codec.specs.Lent.{HasRoom};
 ghost use Rattle.book.specs.State.{fresh};
 ghost use Rattle.tally.specs.Tally.{zero};
@@ -15,7 +14,7 @@ use crate::lines::add_second;
 use book::Book;
 use codec::Lent;
 use refusals::Refusal;
-use sheet::Sheet;
+use sheet::FairSheet;
 use std::marker::Model;
 use tally::Tally;
 
@@ -47,9 +46,8 @@ impl Model for Kept {
 
 impl Kept {
     // Before the first second, under a sheet whose figures are in range.
-    pub fn new(sheet: Sheet) -> Kept
-        requires { InRange sheet }
-        ensures { result ≡ keep (fresh sheet) zero }
+    pub fn new(sheet: FairSheet) -> Kept
+        ensures { result ≡ keep (fresh sheet.figures) zero }
     {
         Kept {
             book: Book::new(sheet),
