@@ -10,4 +10,4 @@ invariant-loop-second l =
     (goal.iterator-loop-second).can_next l.second-iterator
     × (goal.iterator-loop-second).is_finite l.second-iterator
     × (chunks_exact_size l.second-iterator ≡ second_size)
-    × Left l.plan l.at l.fn.self l.block l.count l.fn.out l.out l.fn.used l.self l.used (chunks_exact_rest l.second-iterator)
+    × Left l.fn.self l.seconds l.fn.text l.self l.text (chunks_exact_rest l.second-iterator)
