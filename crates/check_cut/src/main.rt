@@ -13,7 +13,7 @@ use codec::Lent;
 use cut_run::Cut;
 use refusals::Refusal;
 use report::{Form, Kept, Plan};
-use sheet::Sheet;
+use sheet::FairSheet;
 use std::io::Read;
 
 // Room for the text of a block: a second's three rows, and a sum line before each.
@@ -57,7 +57,7 @@ fn start(at: u32) -> Cut
             seconds: 0,
         },
         at,
-        kept: Kept::new(Sheet::default()),
+        kept: Kept::new(FairSheet::default()),
         handed: false,
     }
 }

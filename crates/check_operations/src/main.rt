@@ -5,7 +5,6 @@ mod writers;
 
 ghost use Rattle.std.specs.Prelude.{◌≡◌, ◌<◌};
 ghost use Rattle.refusals.specs.Refusals.{number_in};
-ghost use Rattle.sheet.specs.Sheet.{InRange};
 ghost use Rattle.plant.specs.State.{Ready};
 ghost use Rattle.check_operations.specs.Numbers.{plant_number, book_number, line_number, blank_block, blank_number};
 
@@ -15,16 +14,15 @@ use line::sum_line;
 use plant::PlantState;
 use refusals::Refusal;
 use row::{KwSeconds, Sums};
-use sheet::Sheet;
+use sheet::FairSheet;
 use std::{fmt, io};
 
 // The seconds of the book that a block is read for: it has one block.
 const SECONDS: u32 = block::PER_BLOCK as u32;
 
 // A plant after that many seconds of 0 alone: no kind is on, so each is accepted while a book may be longer.
-fn after_blank(sheet: Sheet, seconds: u32) -> PlantState
-    requires { InRange sheet }
-    ensures { Ready sheet result }
+fn after_blank(sheet: FairSheet, seconds: u32) -> PlantState
+    ensures { Ready sheet.figures result }
 {
     let blank = [0u8; record::SIZE];
     let mut state = PlantState::new();
@@ -34,18 +32,17 @@ fn after_blank(sheet: Sheet, seconds: u32) -> PlantState
     state
 }
 
-fn ask_plant(sheet: Sheet, mut state: PlantState, bytes: &[u8]) -> Result<(), Refusal>
-    requires { Ready sheet state }
-    ensures { number_in result ≡ plant_number sheet state bytes.now }
+fn ask_plant(sheet: FairSheet, mut state: PlantState, bytes: &[u8]) -> Result<(), Refusal>
+    requires { Ready sheet.figures state }
+    ensures { number_in result ≡ plant_number sheet.figures state bytes.now }
 {
     state.second(sheet, bytes)?;
     Ok(())
 }
 
 // A fresh book.
-fn ask_book(sheet: Sheet, owner: u8, bytes: &[u8]) -> Result<(), Refusal>
-    requires { InRange sheet }
-    ensures { number_in result ≡ book_number sheet owner bytes.now }
+fn ask_book(sheet: FairSheet, owner: u8, bytes: &[u8]) -> Result<(), Refusal>
+    ensures { number_in result ≡ book_number sheet.figures owner bytes.now }
 {
     Book::new(sheet)
         .second(owner, bytes)
@@ -100,7 +97,7 @@ fn report(rt: &impl Print, what: &str, answer: Result<(), Refusal>) -> io::Resul
 
 fn plant_after_all(rt: &impl Print) -> io::Result<()> {
     let record = [0u8; record::SIZE];
-    let sheet = Sheet::default();
+    let sheet = FairSheet::default();
     let state = after_blank(sheet, record::MOST_SECONDS);
     report(rt, "plant-second-90001", ask_plant(sheet, state, &record))
 }
@@ -110,7 +107,7 @@ fn owner_8(rt: &impl Print) -> io::Result<()> {
     report(
         rt,
         "book-second-owner-8",
-        ask_book(Sheet::default(), 8, &second),
+        ask_book(FairSheet::default(), 8, &second),
     )
 }
 
@@ -128,7 +125,7 @@ fn buffer_199(rt: &impl Print) -> io::Result<()> {
 
 fn plant_short(rt: &impl Print) -> io::Result<()> {
     let record = [0u8; 35];
-    let answer = ask_plant(Sheet::default(), PlantState::new(), &record);
+    let answer = ask_plant(FairSheet::default(), PlantState::new(), &record);
     report(rt, "plant-second-35-bytes", answer)
 }
 
@@ -137,7 +134,7 @@ fn book_short(rt: &impl Print) -> io::Result<()> {
     report(
         rt,
         "book-second-107-bytes",
-        ask_book(Sheet::default(), 0, &second),
+        ask_book(FairSheet::default(), 0, &second),
     )
 }
 
