@@ -9,11 +9,11 @@ use Rattle.block.specs.declared.Header.{Header}
 use Rattle.block.specs.Said.{values, refused}
 use Rattle.block.specs.Layout.{BlockLayout}
 use Rattle.block.proofs.Claims as read
-use Rattle.block.specs.Places.{block_size, per_block}
+use Rattle.block.specs.Places.{block_size}
 use Rattle.block.specs.Header.{owner_of, seconds_of, header_number, header_of, header_says}
 use Rattle.block.specs.Block.{count_of, block_number, block_of, block_says}
 use Rattle.block.specs.Writing.{Outcome, written_says, outcome_by}
-use Rattle.block.proofs.Taken.{TakenHeader, header_fields, whole_block}
+use Rattle.block.proofs.Taken.{TakenHeader, header_fields}
 use Rattle.block.proofs.WriterClaims.{claims}
 use Rattle.check_copy.specs.Copy.{header_copy, block_copy, sent}
 
@@ -42,10 +42,6 @@ pub block_ends : (b s rest : List ℕ) (t n : ℕ) {m : ℕ} → block_number s 
 block_ends b s rest t n e = rw e refl
 
 -- ---- from the reader's and the writer's answers
-
--- what a caller needs to take the seconds out
-pub whole : (s : List ℕ) (t n : ℕ) (r : Result ℕ Refusal) (k : ℕ) → r ≡ Ok k → block_says r ≡ block_of s t n → (length s ≡ block_size) × (k ≤ per_block)
-whole s t n r k is says = whole_block s t n k (sym says ∙ ap block_says is)
 
 pub few : (b s x : List ℕ) (r : Result Header Refusal) (h : Header) → result_ok r ≡ Some h → ◌≡◌ {A = Outcome} (record { said = header_says r; buffer = x }) (header_copy b s) → h.seconds ≤ most_seconds
 few b s x (Ok y) h is e =
