@@ -17,7 +17,7 @@ fn copy_header(bytes: &[u8], buf: &mut [u8; SIZE]) -> Result<Header, Refusal>
     ensures { record { said = header_says result; buffer = buf.new } ≡ header_copy buf.old bytes.now }
 {
     let header = block::read_header(bytes)?;
-    block::write_header(buf, header.owner, header.seconds).unwrap();
+    block::write_header(buf, header).unwrap();
     Ok(header)
 }
 

@@ -3,7 +3,7 @@ ghost use Rattle.std.specs.Prelude.{◌≤◌, length};
 ghost use Rattle.std.specs.Fn.{FnOnceReturnsAtMut};
 
 use crate::Outcome;
-use block::{write_block, write_header};
+use block::{Header, write_block, write_header};
 use refusals::Refusal;
 use std::io;
 
@@ -81,7 +81,8 @@ fn ask_of<F: FnOnce(&mut [u8]) -> Result<(), Refusal>>(
 fn header(rt: &impl Print, what: &str, len: usize, owner: u8, seconds: u32) -> io::Result<()>
     requires { len ≤ 513 }
 {
-    ask_of(rt, what, len, |buf| write_header(buf, owner, seconds))
+    let header = Header { owner, seconds };
+    ask_of(rt, what, len, |buf| write_header(buf, header))
 }
 
 // Block n of so many bytes of seconds.
@@ -150,10 +151,13 @@ pub(crate) fn one_buffer(rt: &impl Print) -> io::Result<()> {
         &mut buf,
         |buf| write_block(buf, 2, &one),
     )?;
-    ask(
-        rt,
-        "write-header-over-it",
-        &mut buf,
-        |buf| write_header(buf, 5, 5),
-    )
+    ask(rt, "write-header-over-it", &mut buf, |buf| {
+        write_header(
+            buf,
+            Header {
+                owner: 5,
+                seconds: 5,
+            },
+        )
+    })
 }
