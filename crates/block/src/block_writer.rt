@@ -1,6 +1,6 @@
 // A later block written into a lent buffer (02, W1), field after field, the check last.
 ghost use Rattle.std.specs.Prelude.{◌≡◌, ◌*◌, ◌≤◌, length};
-ghost use Rattle.block.specs.Places.{block_size, per_block, second_size};
+ghost use Rattle.block.specs.Places.{per_block, second_size};
 ghost use Rattle.block.specs.Layout.{block_bytes};
 ghost use Rattle.block.specs.Writing.{written_says, block_written};
 

@@ -1,6 +1,5 @@
 // The header written into a lent buffer (02, W1), field after field, the check last.
-ghost use Rattle.std.specs.Prelude.{◌≡◌, length};
-ghost use Rattle.block.specs.Places.{block_size};
+ghost use Rattle.std.specs.Prelude.{◌≡◌};
 ghost use Rattle.block.specs.Layout.{header_bytes};
 ghost use Rattle.block.specs.Writing.{written_says, header_written};
 

@@ -1,5 +1,5 @@
 -- The values hold, by computing. Assumes nothing.
-use Rattle.std.proofs.Common.{refl}
+use Rattle.std.proofs.Common.{rules}
 use lib.Ieee.{of_bits, to_bits}
 use Rattle.line.specs.Text.{digits_in, digits, decimal, field}
 use Rattle.meters.specs.Binary32.{finite_bits, size_of, exact_bits, nearest_whole, in_mhz}
@@ -10,21 +10,4 @@ use Rattle.choose_meter.specs.Values.{Values}
 
 pub values : Values
 unfolding of_bits to_bits digits_in digits decimal field finite_bits size_of exact_bits nearest_whole in_mhz between fair_reading fair_accuracy usable smaller of_two counting exact_deviation count_out said_with reading_of meter_at said_in line_text lines_of printed
-values =
-    record {
-      line = refl;
-      zero_line = refl;
-      refusal = refl;
-      first = refl;
-      second = refl;
-      third = refl;
-      fourth = refl;
-      none = refl;
-      five = refl;
-      failed = refl;
-      cut = refl;
-      longer = refl;
-      empty = refl;
-      whole = refl;
-      cut_short = refl;
-    }
+values = search rules

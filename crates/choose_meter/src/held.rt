@@ -9,7 +9,8 @@ use sending::{Failure, Session, receive, send};
 use std::io::{Read, Write};
 use std::marker::Model;
 
-// The bytes that are held at once, of which the first `filled` are a record begun, and room for their lines.
+// The bytes that are held at once, of which the first `filled` are a record begun, and room for their lines. A read fills a slice, and the kit's
+// ArrayVec lends none past its length: with it, the record begun would stand apart, and the first record of a piece be joined of two parts.
 #[derive(Drop)]
 pub(crate) struct Held {
     bytes: [u8; PIECE],

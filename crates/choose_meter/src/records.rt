@@ -1,5 +1,5 @@
 // A record of meters, and what choosing answers to it. The form is in specs/Records.antt.
-ghost use Rattle.std.specs.Prelude.{◌≡◌, ◌+◌, ◌≤◌, length, take};
+ghost use Rattle.std.specs.Prelude.{◌≡◌, ◌+◌, ◌≤◌, take};
 ghost use Rattle.meters.specs.Meters.{most_meters, says};
 ghost use Rattle.choose_meter.specs.Records.{record_size, meter_size, reading_of, meter_at, meters_in, said_in};
 

@@ -4,7 +4,7 @@ use Prim.Native.Char.{code}
 use Rattle.row.specs.declared.KindRow.{KindRow}
 use Rattle.row.specs.declared.Row.{Row}
 use Rattle.row.specs.declared.sums.Sums.{Sums}
-use Rattle.line.specs.Text.{ascii, digits, field, named}
+use Rattle.line.specs.Text.{ascii, digits, start_text, field, named}
 
 -- "each letter is followed by the actual values of FCR, aFRR, mFRR, then open"
 unfoldable pub plant_text : ℕ → Row → List ℕ
@@ -28,4 +28,4 @@ kind_text k = field k.setpoint.0 ++ (field k.band.low.0 ++ (field k.band.high.0 
 
 -- a plant's line with every figure of its row: the second, the letter, FCR, aFRR, mFRR, then open
 unfoldable pub row_text : ℕ → ℕ → Row → List ℕ
-row_text t letter x = digits t ++ (ascii " " ++ ((letter ∷ []) ++ (kind_text x.fcr ++ (kind_text x.afrr ++ (kind_text x.mfrr ++ (field x.«open».0 ++ ascii "\n"))))))
+row_text t letter x = start_text t letter ++ (kind_text x.fcr ++ (kind_text x.afrr ++ (kind_text x.mfrr ++ (field x.«open».0 ++ ascii "\n"))))

@@ -1,8 +1,8 @@
 -- The lines for those who recompute the shares (02, W8).
-use Rattle.std.specs.Prelude.{ℕ, List, [], ◌∷◌, ◌++◌}
+use Rattle.std.specs.Prelude.{ℕ, List, ◌++◌}
 use Rattle.row.specs.declared.Rounding.{Rounding}
 use Rattle.row.specs.declared.Row.{Row}
-use Rattle.line.specs.Text.{ascii, digits, field, unsigned}
+use Rattle.line.specs.Text.{ascii, start_text, field, unsigned}
 
 -- of a kind: tolerance, rounded-down share, remainder over T, and the extra kW, 0 or 1
 unfoldable pub rounding_text : Rounding → List ℕ
@@ -14,4 +14,4 @@ roundings_text x = rounding_text x.fcr.rounding ++ (rounding_text x.afrr.roundin
 
 -- a plant's line: the second, the letter, error and T, then the kinds
 unfoldable pub shares_text : ℕ → ℕ → Row → List ℕ
-shares_text t letter x = digits t ++ (ascii " " ++ ((letter ∷ []) ++ (field x.error.0 ++ (unsigned x.total ++ (roundings_text x ++ ascii "\n")))))
+shares_text t letter x = start_text t letter ++ (field x.error.0 ++ (unsigned x.total ++ (roundings_text x ++ ascii "\n")))

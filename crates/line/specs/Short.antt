@@ -9,7 +9,7 @@ use Rattle.row.specs.declared.side.PlantCounts.{PlantCounts}
 use Rattle.row.specs.Side.{side_of}
 use Rattle.line.specs.declared.short_lines.Kind.{Kind}
 use Rattle.line.specs.declared.short_lines.Kind.TheVariants.{Fcr, Afrr, Mfrr}
-use Rattle.line.specs.Text.{ascii, digits}
+use Rattle.line.specs.Text.{ascii, digits, start_text}
 
 -- a kind's name, after a space
 abbrev pub name_of : Kind → List ℕ
@@ -21,7 +21,7 @@ name_of Mfrr = ascii " mFRR"
 
 -- 1020 U aFRR below 512: second, plant, kind, side of its band, and kW
 unfoldable pub outside_text : ℕ → ℕ → List ℕ → List ℕ → ℕ → List ℕ
-outside_text t letter kind side kw = digits t ++ (ascii " " ++ ((letter ∷ []) ++ (kind ++ (side ++ (digits kw ++ ascii "\n")))))
+outside_text t letter kind side kw = start_text t letter ++ (kind ++ (side ++ (digits kw ++ ascii "\n")))
 
 -- a kind within its band has no line
 abbrev pub side_text : ℕ → ℕ → List ℕ → BandSide → List ℕ

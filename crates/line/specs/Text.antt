@@ -28,6 +28,10 @@ sign (negsuc n) = ascii "-"
 unfoldable pub decimal : ℤ → List ℕ
 decimal z = sign z ++ digits (nat_abs z)
 
+-- how a plant's line begins: its second and its letter
+abbrev pub start_text : ℕ → ℕ → List ℕ
+start_text t letter = digits t ++ (ascii " " ++ (letter ∷ []))
+
 -- a number with the space that stands before it
 unfoldable pub field : ℤ → List ℕ
 field z = ascii " " ++ decimal z

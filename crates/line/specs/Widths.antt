@@ -13,6 +13,10 @@ row_room = 256
 abbrev pub count_width : ℕ
 count_width = 10
 
+-- a second and a letter
+abbrev pub start_width : ℕ
+start_width = count_width + 2
+
 -- a space, and a signed 32-bit number
 abbrev pub field_width : ℕ
 field_width = 12
@@ -46,7 +50,7 @@ side_width = 7
 
 -- the line of a kind outside its band
 abbrev pub outside_width : ℕ
-outside_width = count_width + 2 + name_width + side_width + count_width + 1
+outside_width = start_width + name_width + side_width + count_width + 1
 
 -- seconds and kW-seconds of a side
 abbrev pub side_count_width : ℕ

@@ -41,6 +41,7 @@ pub(crate) fn put_number<N: Integer>(lent: &mut Lent, n: N)
 }
 
 // A refusal number, or a number of seconds.
+#[tactic(auto, using(crate::proofs::Printed::printed_is))]
 pub fn put_count(lent: &mut Lent, n: u32)
     requires { HasRoom count_width lent.old }
     ensures { Grown count_width lent.old lent.new (digits n) }

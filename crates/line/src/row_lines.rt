@@ -1,6 +1,7 @@
 // The line of a plant with every figure of its row.
 ghost use Rattle.codec.specs.Lent.{HasRoom, Grown};
-ghost use Rattle.line.specs.Widths.{row_room, kind_width};
+ghost use Rattle.line.specs.Widths.{start_width, row_room, kind_width};
+ghost use Rattle.line.specs.Text.{start_text};
 ghost use Rattle.line.specs.Line.{kind_text, row_text};
 ghost use Rattle.line.specs.Lined.{Lined};
 
@@ -12,6 +13,16 @@ use row::KindRow;
 
 // The least buffer that this line writer takes, and those of the shares and the short lines; no line needs more.
 pub const ROW_ROOM: usize = 256;
+
+// Each line of a plant begins with the second and the plant's letter.
+pub(crate) fn put_start(lent: &mut Lent, x: &PlantSecond)
+    requires { HasRoom start_width lent.old }
+    ensures { Grown start_width lent.old lent.new (start_text x.now.second x.now.letter) }
+{
+    put_count(lent, x.second);
+    lent.put_byte(b' ');
+    lent.put_byte(x.letter);
+}
 
 // One kind's setpoint, band, share and actual value, each after a space.
 fn put_kind(lent: &mut Lent, k: KindRow)
@@ -31,9 +42,7 @@ pub fn plant_line(buf: &mut [u8], x: PlantSecond) -> Result<usize, Refusal>
 {
     check_room(buf, ROW_ROOM)?;
     let mut lent = Lent::new(buf);
-    put_count(&mut lent, x.second);
-    lent.put_byte(b' ');
-    lent.put_byte(x.letter);
+    put_start(&mut lent, &x);
     put_kind(&mut lent, x.row.fcr);
     put_kind(&mut lent, x.row.afrr);
     put_kind(&mut lent, x.row.mfrr);

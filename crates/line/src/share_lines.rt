@@ -5,7 +5,8 @@ ghost use Rattle.line.specs.Widths.{row_room, rounding_width};
 ghost use Rattle.line.specs.Shares.{rounding_text, roundings_text, shares_text};
 ghost use Rattle.line.specs.Lined.{Lined};
 
-use crate::number::{put_count, put_field, put_unsigned};
+use crate::number::{put_field, put_unsigned};
+use crate::row_lines::put_start;
 use crate::{PlantSecond, ROW_ROOM, check_room};
 use codec::Lent;
 use refusals::Refusal;
@@ -37,9 +38,7 @@ pub fn plant_shares(buf: &mut [u8], x: PlantSecond) -> Result<usize, Refusal>
 {
     check_room(buf, ROW_ROOM)?;
     let mut lent = Lent::new(buf);
-    put_count(&mut lent, x.second);
-    lent.put_byte(b' ');
-    lent.put_byte(x.letter);
+    put_start(&mut lent, &x);
     put_field(&mut lent, x.row.error);
     put_unsigned(&mut lent, x.row.total);
     put_roundings(&mut lent, x.row);

@@ -7,6 +7,7 @@ ghost use Rattle.line.specs.Short.{name_of, outside_text, side_text, short_text,
 ghost use Rattle.line.specs.Lined.{Lined};
 
 use crate::number::{put_count, put_number};
+use crate::row_lines::put_start;
 use crate::{PlantSecond, ROW_ROOM, check_room};
 use codec::Lent;
 use refusals::Refusal;
@@ -43,9 +44,7 @@ fn put_outside(lent: &mut Lent, x: &PlantSecond, kind: Kind, side: &[u8; 7], kw:
     requires { HasRoom outside_width lent.old }
     ensures { Grown outside_width lent.old lent.new (outside_text x.now.second x.now.letter (name_of kind) side.now kw) }
 {
-    put_count(lent, x.second);
-    lent.put_byte(b' ');
-    lent.put_byte(x.letter);
+    put_start(lent, x);
     lent.put_bytes(kind.name());
     lent.put_bytes(side);
     put_count(lent, kw);

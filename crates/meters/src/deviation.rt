@@ -64,7 +64,7 @@ fn size_in_mhz(bits: u32) -> u64
     if field < HALF_MHZ {
         return 0;
     }
-    let digits = (FIELD + bits % FIELD) as u64;
+    let digits = u64::from(FIELD + bits % FIELD);
     nearest(digits * 1000, 1 << (WHOLE - field))
 }
 

@@ -9,4 +9,4 @@ unfolding outside_text
 returns c =
     let e = c.name.ensures.name in
     let most = c.name.ensures.most in
-    rw (← e) (loosen (omega arith) (both c.put_count.ensures (both c.put_byte.ensures (both c.put_byte-2.ensures (both c.put_bytes.ensures (both c.put_bytes-2.ensures (both c.put_count-2.ensures c.put_byte-3.ensures)))))))
+    rw (← e) (loosen (omega arith) (both c.put_start.ensures (both c.put_bytes.ensures (both c.put_bytes-2.ensures (both c.put_count.ensures c.put_byte.ensures)))))

@@ -38,4 +38,4 @@ returns c =
     let b = c.args.bits in
     let h = c.if-field-lt-HALF_MHZ.false in
     small b c.requires.1
-    (c.nearest.ensures ∙ ap (nearest_whole ((2 ^ 23 + b % 2 ^ 23) * 1000)) (divisor b h) ∙ size_high b c.requires.0 c.requires.1 h)
+    (rw c.from-digits.ensures at c.nearest.ensures ∙ ap (nearest_whole ((2 ^ 23 + b % 2 ^ 23) * 1000)) (divisor b h) ∙ size_high b c.requires.0 c.requires.1 h)
