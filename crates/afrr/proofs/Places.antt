@@ -1,11 +1,9 @@
 -- The place where a number last stood. Assumes nothing.
-use Rattle.std.proofs.Common.{◌≡◌, ℕ, zero, suc, ◌+◌, ◌-◌, ◌≤◌, ltb, Bool, true, false, cond, List, [], length, ℤ, pos, Option, Some, None, is_eq, int_cmp, refl, sym, ap, ◌∙◌, arith}
+use Rattle.std.proofs.Common.{◌≡◌, ℕ, zero, suc, ◌+◌, ◌-◌, ◌≤◌, ltb, Bool, true, false, cond, List, [], length, ℤ, pos, Option, Some, None, is_eq, int_cmp, refl, sym, ap, ◌∙◌, arith, not, ltb-false}
 use Rattle.std.specs.List.{position_or_len}
 use Rattle.std.specs.Option.{unwrap_or}
 use Rattle.std.proofs.lemmas.List.Recursion.{is_position_or_len}
 use Rattle.std.proofs.lemmas.List.Sums.{prefix_len-le-length}
-use mathlib.Core.Bool.{not}
-use borrow.Author.Tests.{ltb-false}
 use Rattle.numbers.proofs.Compared.{cmp_eq}
 use Rattle.power.specs.declared.kilowatts.Kw.{Kw}
 use Rattle.power.specs.Past.{newest}

@@ -1,5 +1,5 @@
 -- The values hold, by computing. Assumes nothing.
-use mathlib.Core.Path.{refl}
+use Rattle.std.proofs.Common.{refl}
 use Rattle.numbers.specs.Order.{max_z, min_z}
 use Rattle.power.specs.Inward.{upper_kw, lower_kw}
 use Rattle.power.specs.Past.{newest}

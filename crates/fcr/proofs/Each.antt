@@ -1,10 +1,5 @@
 -- A test at each number below n, which antt computes. Assumes nothing.
-use mathlib.Core.Path.{◌≡◌, refl}
-use mathlib.Core.Bool.{Bool, true, false, ◌&&◌}
-use Prim.Native.Nat.{ℕ, zero, suc, ◌<◌}
-use native.Mathlib.Omega.{arith}
-use lib.Dec.{leb}
-use borrow.Author.Tests.{leb-true, leb-false}
+use Rattle.std.proofs.Common.{◌≡◌, refl, Bool, true, false, ◌&&◌, ℕ, zero, suc, ◌<◌, arith, leb, leb-true, leb-false}
 use Rattle.numbers.proofs.Rules.{both_true}
 
 abbrev pub every : ℕ → (ℕ → Bool) → Bool

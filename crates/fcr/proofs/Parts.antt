@@ -1,12 +1,5 @@
 -- What a kW weighs at each age in parts of the whole FCR time. Assumes nothing.
-use mathlib.Core.Path.{◌≡◌, refl}
-use mathlib.Core.Bool.{Bool, true, false, cond}
-use Prim.Native.Nat.{ℕ, suc, ◌-◌, ◌≤◌, ◌<◌}
-use native.Mathlib.Omega.{arith}
-use lib.IntN.{pos}
-use mir.Syntax.{w64}
-use mir.Val.{to_z}
-use borrow.Author.Tests.{leb-true, leb-false}
+use Rattle.std.proofs.Common.{◌≡◌, refl, Bool, true, false, cond, ℕ, suc, ◌-◌, ◌≤◌, ◌<◌, arith, pos, w64, to_z, leb-true, leb-false}
 use Rattle.numbers.specs.Bounds.{Within}
 use Rattle.numbers.proofs.Fit.{within_unsigned}
 use Rattle.power.specs.Units.{most_per_kw}

@@ -1,10 +1,6 @@
 -- What a derived comparison of signed numbers answers. Assumes nothing.
-use mathlib.Core.Path.{◌≡◌, refl, sym, ◌∙◌}
-use mathlib.Core.Bool.{Bool, true, false, cond, ◌&&◌}
-use native.Mathlib.Omega.{arith}
-use lib.IntN.{ℤ}
 use lib.Signed.{lt_z, le_z}
-use Rattle.std.proofs.Common.{Less, Equal, Greater, is_lt, is_le, is_eq, int_cmp}
+use Rattle.std.proofs.Common.{Less, Equal, Greater, is_lt, is_le, is_eq, int_cmp, ◌≡◌, refl, sym, ◌∙◌, Bool, true, false, cond, ◌&&◌, arith, ℤ}
 use Rattle.numbers.proofs.Test.{flags}
 
 module _ (a b : ℤ) where

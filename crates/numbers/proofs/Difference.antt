@@ -1,9 +1,6 @@
 -- Differences of natural numbers: with their sign, and times a factor. Assumes nothing.
-use mathlib.Core.Path.{◌≡◌, ◌∙◌}
-use Prim.Native.Nat.{ℕ, ◌-◌, ◌*◌, ◌≤◌}
-use native.Mathlib.Nat.{mul_comm, mul-sub}
-use native.Mathlib.Omega.{arith}
-use lib.IntN.{pos, neg_ℤ, ◌-ℤ◌}
+use Rattle.std.proofs.Common.{◌≡◌, ◌∙◌, ℕ, ◌-◌, ◌*◌, ◌≤◌, mul_comm, arith, pos, neg_ℤ, ◌-ℤ◌}
+use native.Mathlib.Nat.{mul-sub}
 use Rattle.numbers.proofs.Parts.{shows, sub_nat, neg_nat}
 
 pub less_up : (a b : ℕ) → b ≤ a → pos a -ℤ pos b ≡ pos (a - b)

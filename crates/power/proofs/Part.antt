@@ -1,10 +1,5 @@
 -- The grains of a kW and a percentage of them are small. Assumes nothing.
-use Prim.Native.Nat.{ℕ, ◌+◌, ◌*◌, ◌/◌, ◌≤◌, ◌<◌}
-use native.Mathlib.Nat.{mul-le-mul}
-use native.Mathlib.Omega.{arith}
-use lib.IntN.{pos}
-use mir.Syntax.{w32, w64}
-use mir.Val.{Fits, to_z}
+use Rattle.std.proofs.Common.{ℕ, ◌+◌, ◌*◌, ◌/◌, ◌≤◌, ◌<◌, mul-le-mul, arith, pos, w32, w64, Fits, to_z}
 use Rattle.numbers.specs.Bounds.{Within}
 use Rattle.numbers.proofs.Fit.{within_unsigned}
 use Rattle.power.specs.Units.{most_per_kw, most_percent, Divides}

@@ -1,5 +1,5 @@
 -- The values hold, by computing. Assumes nothing.
-use mathlib.Core.Path.{refl}
+use Rattle.std.proofs.Common.{refl}
 use Rattle.power.specs.Inward.{upper_kw, lower_kw}
 use Rattle.power.specs.Values.{Values}
 

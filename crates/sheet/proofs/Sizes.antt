@@ -1,9 +1,5 @@
 -- The grains of a kW, for every sheet: above 0, at most what they may be, and whole in each part. Assumes nothing.
-use mathlib.Core.Path.{◌≡◌, ap, ◌∙◌}
-use Prim.Native.Nat.{ℕ, ◌*◌, ◌≤◌}
-use native.Mathlib.Nat.{mul_assoc, mul_comm, mul-le-mul}
-use native.Mathlib.Omega.{arith}
-use lib.IntN.{ℤ, pos, ◌*ℤ◌}
+use Rattle.std.proofs.Common.{◌≡◌, ap, ◌∙◌, ℕ, ◌*◌, ◌≤◌, mul_assoc, mul_comm, mul-le-mul, arith, ℤ, pos, ◌*ℤ◌}
 use Rattle.power.specs.Units.{Divides, in_grains, percent_of}
 use Rattle.power.proofs.Inside.{percent_exact}
 use Rattle.sheet.specs.declared.Sheet.{Sheet}

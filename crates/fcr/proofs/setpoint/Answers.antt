@@ -1,7 +1,5 @@
 -- `fcr::setpoint` meets its contract: the code's tests are those of the definition. Assumes nothing.
-use mathlib.Core.Path.{◌≡◌, sym, ◌∙◌, subst}
-use mathlib.Core.Bool.{true, false, ◌&&◌}
-use lib.IntN.{ℤ, pos, neg_ℤ}
+use Rattle.std.proofs.Common.{◌≡◌, sym, ◌∙◌, subst, true, false, ◌&&◌, ℤ, pos, neg_ℤ}
 use lib.Signed.{le_z}
 use Rattle.numbers.specs.Bounds.{Within}
 use Rattle.numbers.proofs.Test.{tests}

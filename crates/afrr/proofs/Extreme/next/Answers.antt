@@ -1,6 +1,5 @@
 -- The three ways on are those of the definition.
-use Rattle.std.proofs.Common.{Bool, ℤ, is_eq, int_cmp, ◌≡◌, sym, ap, ◌∙◌}
-use borrow.Author.Tests.{lt-ltb, le-ltb}
+use Rattle.std.proofs.Common.{Bool, ℤ, is_eq, int_cmp, ◌≡◌, sym, ap, ◌∙◌, lt-ltb, le-ltb}
 use Rattle.numbers.proofs.Compared.{eq_told}
 use Rattle.power.specs.Past.{at}
 use Rattle.afrr.specs.State.{is_at}

@@ -1,8 +1,5 @@
 -- What lies less than a kW above a lower limit rounds down to it.
-use Rattle.std.proofs.Common.{◌≡◌, ℕ, ◌-◌, arith, ap, ◌∙◌, ◌+ℤ◌, ◌-ℤ◌}
-use lib.IntN.{ℤ, pos}
-use mir.Syntax.{w64}
-use mir.Val.{to_z, of_z}
+use Rattle.std.proofs.Common.{◌≡◌, ℕ, ◌-◌, arith, ap, ◌∙◌, ◌+ℤ◌, ◌-ℤ◌, ℤ, pos, w64, to_z, of_z}
 use Rattle.numbers.proofs.Read.{is, through}
 use Rattle.numbers.proofs.Parts.{nat_eq, sub_nat}
 use Rattle.power.specs.Units.{Divides}
