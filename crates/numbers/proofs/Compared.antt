@@ -1,5 +1,5 @@
 -- What a derived comparison of signed numbers answers. Assumes nothing.
-use lib.Signed.{lt_z, le_z}
+use Rattle.std.specs.Int.Signed.{lt_z, le_z}
 use Rattle.std.proofs.Common.{Less, Equal, Greater, is_lt, is_le, is_eq, int_cmp, ◌≡◌, refl, sym, ◌∙◌, Bool, true, false, cond, ◌&&◌, arith, ℤ}
 use Rattle.numbers.proofs.Test.{flags}
 

@@ -1,6 +1,6 @@
 -- `fcr::setpoint` meets its contract: the code's tests are those of the definition. Assumes nothing.
 use Rattle.std.proofs.Common.{◌≡◌, sym, ◌∙◌, subst, true, false, ◌&&◌, ℤ, pos, neg_ℤ}
-use lib.Signed.{le_z}
+use Rattle.std.specs.Int.Signed.{le_z}
 use Rattle.numbers.specs.Bounds.{Within}
 use Rattle.numbers.proofs.Test.{tests}
 use Rattle.power.specs.Units.{most_reserve}

@@ -1,6 +1,6 @@
 -- The machine's quotient toward zero, of v or of -1 - v, gives the quotient rounded down.
 use Rattle.std.proofs.Common.{◌≡◌, ℕ, true, false, ◌-ℤ◌, ℤ, pos, negsuc, w32, SFits}
-use lib.Signed.{le_z, quot_z}
+use Rattle.std.specs.Int.Signed.{le_z, quot_z}
 use Rattle.power.specs.Inward.{upper_kw}
 use Rattle.numbers.proofs.Read.{is, carry, through}
 use Rattle.numbers.proofs.Test.{tests}
