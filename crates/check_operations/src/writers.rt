@@ -1,5 +1,5 @@
 // The writers' answers, and the buffer after each (02, W1).
-ghost use Rattle.std.specs.Prelude.{◌≤◌, length};
+ghost use Rattle.std.specs.Prelude.{◌≤◌};
 ghost use Rattle.std.specs.Fn.{FnOnceReturnsAtMut};
 
 use crate::Outcome;
@@ -7,9 +7,7 @@ use block::{Header, write_block, write_header};
 use refusals::Refusal;
 use std::io;
 
-// The longest buffer, and the most bytes of seconds.
-const LONGEST: usize = block::SIZE + 1;
-
+// The most bytes of seconds.
 const MOST_BYTES: usize = 260 * record::BOOK_SIZE;
 
 // From one byte to the next, in what a buffer holds before, and in the bytes of seconds.
@@ -26,13 +24,11 @@ fn fill(bytes: &mut [u8], step: u8) {
     }
 }
 
-// The sum of each byte times its place, counted from 1.
-fn weight(bytes: &[u8]) -> u64
-    requires { length bytes.now ≤ 513 }
-{
-    let mut sum = 0;
+// The sum of each byte times its place, counted from 1. No buffer here is so long that it wraps.
+fn weight(bytes: &[u8]) -> u64 {
+    let mut sum: u64 = 0;
     for (i, byte) in bytes.iter().enumerate() {
-        sum += (i as u64 + 1) * u64::from(*byte);
+        sum = sum.wrapping_add((i as u64 + 1).wrapping_mul(u64::from(*byte)));
     }
     sum
 }
@@ -42,8 +38,7 @@ fn written<F: FnOnce(&mut [u8]) -> Result<(), Refusal>>(
     buf: &mut [u8],
     write: F,
 ) -> (Result<(), Refusal>, u64)
-    requires callable { F.IsAlwaysCallable write }
-    requires size { length buf.old ≤ 513 }
+    requires { F.IsAlwaysCallable write }
     ensures { FnOnceReturnsAtMut F.FnOnce write buf.old result.0 buf.new }
 {
     let answer = write(buf);
@@ -56,79 +51,74 @@ fn ask<F: FnOnce(&mut [u8]) -> Result<(), Refusal>>(
     buf: &mut [u8],
     write: F,
 ) -> io::Result<()>
-    requires callable { F.IsAlwaysCallable write }
-    requires size { length buf.old ≤ 513 }
+    requires { F.IsAlwaysCallable write }
 {
     let (answer, weight) = written(buf, write);
     println!(rt; "{what} {} {weight}", Outcome(answer))
 }
 
-// Into the first `len` bytes of a buffer.
+// Into a buffer that holds other bytes already.
 fn ask_of<F: FnOnce(&mut [u8]) -> Result<(), Refusal>>(
     rt: &impl Print,
     what: &str,
-    len: usize,
+    buf: &mut [u8],
     write: F,
 ) -> io::Result<()>
-    requires callable { F.IsAlwaysCallable write }
-    requires size { len ≤ 513 }
+    requires { F.IsAlwaysCallable write }
 {
-    let mut buf = [0u8; LONGEST];
-    fill(&mut buf, BUFFER);
-    ask(rt, what, &mut buf[..len], write)
+    fill(buf, BUFFER);
+    ask(rt, what, buf, write)
 }
 
-fn header(rt: &impl Print, what: &str, len: usize, owner: u8, seconds: u32) -> io::Result<()>
-    requires { len ≤ 513 }
-{
+fn header(rt: &impl Print, what: &str, buf: &mut [u8], owner: u8, seconds: u32) -> io::Result<()> {
     let header = Header { owner, seconds };
-    ask_of(rt, what, len, |buf| write_header(buf, header))
+    ask_of(rt, what, buf, |buf| write_header(buf, header))
 }
 
 // Block n of so many bytes of seconds.
-fn block(rt: &impl Print, what: &str, len: usize, n: u32, bytes: usize) -> io::Result<()>
-    requires { (len ≤ 513) × (bytes ≤ 28080) }
+fn block(rt: &impl Print, what: &str, buf: &mut [u8], n: u32, bytes: usize) -> io::Result<()>
+    requires { bytes ≤ 28080 }
 {
     let mut seconds = [0u8; MOST_BYTES];
     fill(&mut seconds, SECONDS);
     let seconds = &seconds[..bytes];
-    ask_of(rt, what, len, |buf| write_block(buf, n, seconds))
+    ask_of(rt, what, buf, |buf| write_block(buf, n, seconds))
 }
 
 pub(crate) fn headers(rt: &impl Print) -> io::Result<()> {
-    header(rt, "write-header", 512, 2, 1)?;
-    header(rt, "write-header-most", 512, 7, 90000)?;
-    header(rt, "write-header-12-short", 511, 2, 1)?;
-    header(rt, "write-header-12-long", 513, 2, 1)?;
-    header(rt, "write-header-12-empty", 0, 2, 1)?;
-    header(rt, "write-header-12-before-16", 511, 8, 1)?;
-    header(rt, "write-header-12-before-17", 513, 2, 0)?;
-    header(rt, "write-header-16", 512, 8, 1)?;
-    header(rt, "write-header-16-largest", 512, 255, 1)?;
-    header(rt, "write-header-16-before-17", 512, 8, 0)?;
-    header(rt, "write-header-17-none", 512, 7, 0)?;
-    header(rt, "write-header-17-one-more", 512, 0, 90001)?;
-    header(rt, "write-header-17-largest", 512, 0, 4294967295)
+    header(rt, "write-header", &mut [0; 512], 2, 1)?;
+    header(rt, "write-header-most", &mut [0; 512], 7, 90000)?;
+    header(rt, "write-header-12-short", &mut [0; 511], 2, 1)?;
+    header(rt, "write-header-12-long", &mut [0; 513], 2, 1)?;
+    header(rt, "write-header-12-empty", &mut [0; 0], 2, 1)?;
+    header(rt, "write-header-12-before-16", &mut [0; 511], 8, 1)?;
+    header(rt, "write-header-12-before-17", &mut [0; 513], 2, 0)?;
+    header(rt, "write-header-16", &mut [0; 512], 8, 1)?;
+    header(rt, "write-header-16-largest", &mut [0; 512], 255, 1)?;
+    header(rt, "write-header-16-before-17", &mut [0; 512], 8, 0)?;
+    header(rt, "write-header-17-none", &mut [0; 512], 7, 0)?;
+    header(rt, "write-header-17-one-more", &mut [0; 512], 0, 90001)?;
+    header(rt, "write-header-17-largest", &mut [0; 512], 0, 4294967295)
 }
 
 pub(crate) fn blocks(rt: &impl Print) -> io::Result<()> {
-    block(rt, "write-block-one", 512, 1, 108)?;
-    block(rt, "write-block-two", 512, 22500, 216)?;
-    block(rt, "write-block-three", 512, 16909060, 324)?;
-    block(rt, "write-block-four", 512, 4294967295, 432)?;
-    block(rt, "write-block-12-short", 511, 1, 108)?;
-    block(rt, "write-block-12-long", 513, 1, 108)?;
-    block(rt, "write-block-12-empty", 0, 1, 108)?;
-    block(rt, "write-block-12-before-19", 511, 0, 108)?;
-    block(rt, "write-block-12-before-23", 513, 1, 107)?;
-    block(rt, "write-block-19", 512, 0, 108)?;
-    block(rt, "write-block-19-before-23", 512, 0, 0)?;
-    block(rt, "write-block-23-none", 512, 1, 0)?;
-    block(rt, "write-block-23-less", 512, 1, 107)?;
-    block(rt, "write-block-23-more", 512, 1, 109)?;
-    block(rt, "write-block-23-one-byte-more", 512, 1, 433)?;
-    block(rt, "write-block-23-five", 512, 1, 540)?;
-    block(rt, "write-block-23-many", 512, 1, 28080)
+    block(rt, "write-block-one", &mut [0; 512], 1, 108)?;
+    block(rt, "write-block-two", &mut [0; 512], 22500, 216)?;
+    block(rt, "write-block-three", &mut [0; 512], 16909060, 324)?;
+    block(rt, "write-block-four", &mut [0; 512], 4294967295, 432)?;
+    block(rt, "write-block-12-short", &mut [0; 511], 1, 108)?;
+    block(rt, "write-block-12-long", &mut [0; 513], 1, 108)?;
+    block(rt, "write-block-12-empty", &mut [0; 0], 1, 108)?;
+    block(rt, "write-block-12-before-19", &mut [0; 511], 0, 108)?;
+    block(rt, "write-block-12-before-23", &mut [0; 513], 1, 107)?;
+    block(rt, "write-block-19", &mut [0; 512], 0, 108)?;
+    block(rt, "write-block-19-before-23", &mut [0; 512], 0, 0)?;
+    block(rt, "write-block-23-none", &mut [0; 512], 1, 0)?;
+    block(rt, "write-block-23-less", &mut [0; 512], 1, 107)?;
+    block(rt, "write-block-23-more", &mut [0; 512], 1, 109)?;
+    block(rt, "write-block-23-one-byte-more", &mut [0; 512], 1, 433)?;
+    block(rt, "write-block-23-five", &mut [0; 512], 1, 540)?;
+    block(rt, "write-block-23-many", &mut [0; 512], 1, 28080)
 }
 
 // Three blocks one after the other into one buffer: none leaves a byte of the one before it.
