@@ -1,18 +1,9 @@
 -- What the shares are made of, for any number of kinds. Assumes nothing.
-use Prim.Native.Nat.{ℕ, suc, ◌+◌, ◌*◌, ◌<◌}
-use mathlib.Core.Path.{◌≡◌, refl, ap, sym, ◌∙◌}
-use mathlib.Core.Logic.{⊎_elim}
-use mathlib.Core.Bool.{Bool, true, false, cond}
-use mathlib.Core.List.{List, [], ◌∷◌, map}
-use native.Mathlib.Omega.{arith}
-use native.Mathlib.Nat.{div-add-mod', mod-lt, mul-zero, zero-mod}
-use lib.Dec.{ltb}
-use lib.ListN.{length, length-map, get_or}
-use borrow.Author.Tests.{eq-eqb, ne_eqb}
-use Rattle.numbers.proofs.Test.{or_false}
-use Rattle.sharing.specs.declared.shares.Weighed.{Weighed}
+use Rattle.std.proofs.Common.{ℕ, suc, ◌+◌, ◌*◌, ◌<◌, ◌≡◌, refl, ap, sym, ◌∙◌, ⊎_elim, false, true≢false, Some, None, IfNone, List, [], ◌∷◌, map, arith, div-add-mod', mod-lt, mul-zero, ltb, length, get_or, eq-eqb, ne_eqb}
+use native.Mathlib.Nat.{zero-mod}
+use lib.ListN.{length-map}
 use Rattle.sharing.specs.declared.shares.Part.{Part}
-use Rattle.sharing.specs.Shares.{one, sum_of, some_on, weighed_on, tolerance_of, tolerances, total, floor_of, floors, remainder_of, remainders, missing, plus, none, extras_by, to_first, shares, parts_with, parts_by, unrounded, parts, whole_of, wholes, floors_in, remainders_in, extras_in}
+use Rattle.sharing.specs.Shares.{Weighed, one, sum_of, some_on, weighed_on, tolerance_of, tolerances, total, floor_of, floors, remainder_of, remainders, missing, plus, none, extras_by, to_first, shares, parts_with, parts_by, unrounded, parts, whole_of, wholes, floors_in, remainders_in, extras_in}
 use Rattle.sharing.specs.Claims.{before, OffNone, AllDivided, OffUnrounded, Parted}
 use Rattle.sharing.proofs.Counts.{flag, length_extras, floors_le, given}
 use Rattle.sharing.proofs.Rank.{ranked}
@@ -65,11 +56,8 @@ unrounded_floors (x ∷ xs) = ap (λ (l : List ℕ). x ∷ l) (unrounded_floors 
 -- as many as kinds
 first_long : (e : ℕ) (ks : List Weighed) → length (to_first e ks) ≡ length ks
 first_long e [] = refl
-first_long e (k ∷ ks) = go k.on (first_long e ks)
-  where
-    go : (b : Bool) → length (to_first e ks) ≡ length ks → length (cond b (e ∷ none ks) (0 ∷ to_first e ks)) ≡ suc (length ks)
-    go true n = ap suc (length-map ks (λ (k : Weighed). 0))
-    go false n = ap suc n
+first_long e (Some t ∷ ks) = ap suc (length-map ks (λ (k : Weighed). 0))
+first_long e (None ∷ ks) = ap suc (first_long e ks)
 
 zeros_remainders : (xs : List ℕ) (ks : List Weighed) → length xs ≡ length ks → remainders_in (map unrounded xs) ≡ none ks
 zeros_remainders [] [] n = refl
@@ -86,16 +74,13 @@ zeros_extras (x ∷ xs) (k ∷ ks) n = ap (λ (l : List ℕ). 0 ∷ l) (zeros_ex
 -- no kind on: T is 0, and nothing goes to anybody
 off_total : (ks : List Weighed) → some_on (weighed_on ks) ≡ false → total ks ≡ 0
 off_total [] q = refl
-off_total (k ∷ ks) q =
-    let o = or_false k.on (some_on (weighed_on ks)) q in
-    let z : tolerance_of k ≡ 0 = ap (λ (b : Bool). cond b k.tolerance 0) o.0 in
-    omega (arith, off_total ks o.1)
+off_total (Some t ∷ ks) q = absurd (true≢false q)
+off_total (None ∷ ks) q = omega (arith, off_total ks q)
 
 off_first : (e : ℕ) (ks : List Weighed) → some_on (weighed_on ks) ≡ false → map unrounded (to_first e ks) ≡ map (λ (k : Weighed). unrounded 0) ks
 off_first e [] q = refl
-off_first e (k ∷ ks) q =
-    let o = or_false k.on (some_on (weighed_on ks)) q in
-    rw o.0 (ap (λ (l : List Part). unrounded 0 ∷ l) (off_first e ks o.1))
+off_first e (Some t ∷ ks) q = absurd (true≢false q)
+off_first e (None ∷ ks) q = ap (λ (l : List Part). unrounded 0 ∷ l) (off_first e ks q)
 
 -- ---- a kind off, by its share and its remainder
 
@@ -109,26 +94,26 @@ nothing p w r =
 abbrev OffExact : List Part → List Weighed → Type 0
 OffExact [] ks = Unit
 OffExact (p ∷ ps) [] = Unit
-OffExact (p ∷ ps) (k ∷ ks) = (k.on ≡ false → p.remainder ≡ 0) × OffExact ps ks
+OffExact (p ∷ ps) (k ∷ ks) = IfNone k (p.remainder ≡ 0) × OffExact ps ks
 
 by_exact : (e T : ℕ) (ks : List Weighed) (xs : List ℕ) → OffExact (parts_with e T (tolerances ks) xs) ks
 by_exact e T [] xs = tt
 by_exact e T (k ∷ ks) [] = tt
-by_exact e T (k ∷ ks) (x ∷ xs) = (exact, by_exact e T ks xs)
-  where
-    exact : k.on ≡ false → remainder_of e T (tolerance_of k) ≡ 0
-    exact q = rw (q, mul-zero e) (zero-mod T)
+by_exact e T (Some t ∷ ks) (x ∷ xs) = (tt, by_exact e T ks xs)
+by_exact e T (None ∷ ks) (x ∷ xs) = (rw (mul-zero e) (zero-mod T), by_exact e T ks xs)
 
 unrounded_exact : (xs : List ℕ) (ks : List Weighed) → OffExact (map unrounded xs) ks
 unrounded_exact [] ks = tt
 unrounded_exact (x ∷ xs) [] = tt
-unrounded_exact (x ∷ xs) (k ∷ ks) = ((λ q. refl), unrounded_exact xs ks)
+unrounded_exact (x ∷ xs) (Some t ∷ ks) = (tt, unrounded_exact xs ks)
+unrounded_exact (x ∷ xs) (None ∷ ks) = (refl, unrounded_exact xs ks)
 
 off_parts : (ps : List Part) (ks : List Weighed) → OffNone (wholes ps) ks → OffExact ps ks → OffUnrounded ps ks
 off_parts [] [] o r = tt
 off_parts [] (k ∷ ks) o r = o
 off_parts (p ∷ ps) [] o r = o
-off_parts (p ∷ ps) (k ∷ ks) o r = ((λ q. nothing p (o.0 q) (r.0 q)), off_parts ps ks o.1 r.1)
+off_parts (p ∷ ps) (Some t ∷ ks) o r = (tt, off_parts ps ks o.1 r.1)
+off_parts (p ∷ ps) (None ∷ ks) o r = (nothing p o.0 r.0, off_parts ps ks o.1 r.1)
 
 -- ---- both
 

@@ -1,6 +1,5 @@
 -- What is written so far, by `Walked`.
-use Rattle.sharing.proofs.Down.{start}
-use Rattle.sharing.proofs.Walk.{product_fits}
+use Rattle.sharing.proofs.Down.{start, product_fits}
 use Rattle.sharing.proofs.parts.round_down.Goals as goal
 
 pub loop-i-init : goal.loop-i-init
