@@ -7,7 +7,7 @@ use native.Mathlib.Omega.{arith}
 use lib.Dec.{T, leb, eqb}
 use lib.IntN.{ℤ, pos}
 use lib.ListN.{length}
-use Rattle.refusals.specs.Refusals.{Answer, answer_by}
+use Rattle.refusals.specs.Refusals.{answer_number, Answer, answer_by}
 use Rattle.numbers.specs.Bounds.{Within}
 use mir.Syntax.{w32}
 use mir.Val.{SFits, hbits}
@@ -40,10 +40,11 @@ use Rattle.afrr.proofs.Claims as afrr-claims
 use Rattle.mfrr.proofs.Claims as mfrr-claims
 use Rattle.plant.specs.Seconds.{History, Closed, on_timeline, fcr_setpoint, fcr_past, afrr_second, afrr_past, mfrr_second, mfrr_past}
 use Rattle.plant.specs.Refusals.{most_power, record_number_at, number_at, AllClosed, Accepted, grown_by, grown}
-use Rattle.plant.specs.Rows.{kinds_with, kinds_at, row_at, number_in, says, answer_at, shared_difference, figures_of}
-use Rattle.plant.specs.State.{PlantStep, state_of, handed_over, OverPast, most_added, Added, step_in, Ready}
+use Rattle.plant.specs.Rows.{kinds_with, kinds_at, row_at, says, answer_at, shared_difference, figures_of}
+use Rattle.plant.specs.State.{PlantStep, state_of, handed_over, OverPast, most_added, AddedWithin, step_in, Ready}
 use Rattle.plant.specs.Run.{PlantSecond, state_after, answers, accepted, answers_over}
 use Rattle.plant.specs.Claims.{kind_list, EveryList, RowHolds, Stuck, call_while_off, Claims}
+use Rattle.plant.proofs.OnOff.{if_on}
 use Rattle.plant.proofs.Past.{Clear, clear, ready, fcr_ranged, afrr_second_fair, afrr_fair, mfrr_accepted, over_bytes}
 use Rattle.plant.proofs.Fresh.{fresh_book}
 use Rattle.plant.proofs.Cut.{cut}
@@ -69,7 +70,7 @@ still_accepted c h a s = go (number_at c h s) refl
     go zero e = (record_number_lem c h s e, a)
     go (suc n) e = a
 
-number_by : (n : ℕ) (r : Row) → number_in (answer_by n r) ≡ n
+number_by : (n : ℕ) (r : Row) → answer_number (answer_by n r) ≡ n
 number_by zero r = refl
 number_by (suc n) r = refl
 
@@ -83,7 +84,7 @@ over_past sh i c h a s m w =
     let o = over_bytes sh i c h a s m w in
     record {
       said = ap (λ (p : PlantStep). says p.answer) o ∙ says_by (number_at c h s) _;
-      number = ap (λ (p : PlantStep). number_in p.answer) o ∙ number_by (number_at c h s) _;
+      number = ap (λ (p : PlantStep). answer_number p.answer) o ∙ number_by (number_at c h s) _;
       answer = ap (λ (p : PlantStep). p.answer) o;
       state = ap (λ (p : PlantStep). p.state) o;
       stays = still_accepted c h a s;
@@ -191,10 +192,10 @@ module _ (sh : Sheet) (i : InRange sh) (c : Closed) (h : History) (a : Accepted 
   unfolding kinds_at kinds_with
   all_published =
       let p = cleared.passed_1_to_7 in (
-        (λ on. (fcr-claims.claims).published sh i (fcr_past c h) (fcr_setpoint x) x.fcr_held p.fcr_held_is.sign),
+        if_on _ _ _ _ ((fcr-claims.claims).published sh i (fcr_past c h) (fcr_setpoint x) x.fcr_held p.fcr_held_is.sign),
         (
-          (λ on. (afrr-claims.claims).published sh i (afrr_past c h) (afrr_second x) (afrr_second_fair (length h) x p)),
-          ((λ on. (mfrr-claims.claims).published sh i (mfrr_past c h) (mfrr_second (on_timeline c x))), tt),
+          if_on _ _ _ _ ((afrr-claims.claims).published sh i (afrr_past c h) (afrr_second x) (afrr_second_fair (length h) x p)),
+          (if_on _ _ _ _ ((mfrr-claims.claims).published sh i (mfrr_past c h) (mfrr_second (on_timeline c x))), tt),
         ),
       )
 
@@ -215,13 +216,13 @@ module _ (sh : Sheet) (i : InRange sh) (c : Closed) (h : History) (a : Accepted 
       let b = band_sized afrr.most_limit _ tt ((afrr-claims.claims).lower_small sh i (afrr_past c (x ∷ h)) all) ((afrr-claims.claims).upper_small sh i (afrr_past c (x ∷ h)) all) in
       let g = (mfrr-claims.claims).range sh i (mfrr_past c h) (mfrr_second (on_timeline c x)) (mfrr_accepted c (x ∷ h) (also_accepted c h x accepted-x a)) in
       record {
-        fcr = record { setpoint = s; low = f.0; high = f.1 };
-        afrr = record { setpoint = p.afrr_setpoint_is; low = b.0; high = b.1 };
-        mfrr = record { setpoint = g.setpoint_range; low = within_le mfrr.most_limit sharing.most_limit _ g.small.0 tt; high = within_le mfrr.most_limit sharing.most_limit _ g.small.1 tt };
+        fcr = if_on _ _ _ _ (record { setpoint = s; low = f.0; high = f.1 });
+        afrr = if_on _ _ _ _ (record { setpoint = p.afrr_setpoint_is; low = b.0; high = b.1 });
+        mfrr = if_on _ _ _ _ (record { setpoint = g.setpoint_range; low = within_le mfrr.most_limit sharing.most_limit _ g.small.0 tt; high = within_le mfrr.most_limit sharing.most_limit _ g.small.1 tt });
       }
 
   -- measured and working point, as shared
-  difference_sized : (m w : ℤ) → Added m w → Within most_difference (shared_difference x m w)
+  difference_sized : (m w : ℤ) → AddedWithin m w → Within most_difference (shared_difference x m w)
   difference_sized m w d =
       let p = cleared.passed_1_to_7 in
       less sharing.most_shared sharing.most_shared most_difference _ _ (omega arith)
@@ -240,11 +241,11 @@ module _ (sh : Sheet) (i : InRange sh) (c : Closed) (h : History) (a : Accepted 
         sized = λ D d. sized D (shared_difference x m w) k.fcr k.afrr k.mfrr d kinds_sized;
       }
 
-  pub row_fits : (m w : ℤ) → Added m w → Row32 (row_at sh c h x m w)
+  pub row_fits : (m w : ℤ) → AddedWithin m w → Row32 (row_at sh c h x m w)
   row_fits m w d = small_fits _ ((row_holds m w).sized most_difference (difference_sized m w d))
 
 -- nothing is added
-pub none_added : Added (pos 0) (pos 0)
+pub none_added : AddedWithin (pos 0) (pos 0)
 none_added = record { measured = within_lit most_added (pos 0) tt; working_point_is = within_lit most_power (pos 0) tt }
 
 -- ---- a state that no second can leave

@@ -20,7 +20,7 @@ use Rattle.mfrr.specs.Signal.{quarter_hour, setpoint_at}
 use Rattle.mfrr.specs.Refusals.{rules_at, refusal}
 use Rattle.mfrr.specs.State.{second_of}
 use Rattle.mfrr.proofs.Rules as mfrr-rules
-use Rattle.plant.specs.declared.Kinds.{Kinds}
+use Rattle.sharing.specs.declared.kinds.Kinds.{Kinds}
 use Rattle.plant.specs.Seconds.{History, with_end, moved_on, moved_back, timeline, on_timeline, status_of, last_status_of, fcr_setpoint, afrr_second, mfrr_second, setpoints_with, setpoints_at}
 use Rattle.plant.specs.Refusals.{nonzero, held_out, power_out, call_filled, call_out, status_moved, record_rules, record_number, off_number, record_number_at, AllClosed, Accepted}
 use Rattle.plant.specs.Rows.{kinds_with, kinds_at, row_by, row_at}

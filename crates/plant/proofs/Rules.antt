@@ -7,7 +7,7 @@ use lib.Dec.{eqb}
 use lib.IntN.{ℤ}
 use lib.ListN.{length}
 use Rattle.refusals.specs.declared.Refusal.{Refusal}
-use Rattle.refusals.specs.Refusals.{number_of}
+use Rattle.refusals.specs.Refusals.{answer_number, number_of}
 use Rattle.refusals.specs.Refusals as answer
 use Rattle.refusals.proofs.Laws.{Positive, positive, number_positive}
 use Rattle.numbers.specs.Rules.{Rule, first, or_else}
@@ -30,7 +30,6 @@ use Rattle.plant.specs.declared.PlantState.{PlantState}
 use Rattle.plant.specs.declared.Setpoints.{Setpoints}
 use Rattle.plant.specs.Seconds.{mfrr_second, setpoints_with}
 use Rattle.plant.specs.Refusals.{range_rules, range_number, rest_rules, record_rules, record_number, off_rules, off_number, rules_with}
-use Rattle.plant.specs.Rows.{number_in}
 use Rattle.plant.specs.State.{call_rules_in, mfrr_setpoint_in, record_rules_in, rules_in, kinds_in, accepted_in, step_by, given_in, kinds_step_in, call_step_in, record_step_in, read_in, step_in}
 
 pub in_parts :
@@ -93,36 +92,36 @@ module _ (sh : Sheet) (st : PlantState) (x : Record) where
       ∙ ap (λ (n : ℕ). or_else (record_number st.seconds st.last_status x) (or_else n off_number_in)) (call_first st.mfrr st.seconds (mfrr_second x))
 
   module _ (m w : ℤ) where
-    by_off : number_in (kinds_step_in sh st x given band (mfrr.accepted_in sh taken).state m w).answer ≡ off_number_in
+    by_off : answer_number (kinds_step_in sh st x given band (mfrr.accepted_in sh taken).state m w).answer ≡ off_number_in
     unfolding kinds_step_in
     by_off = go (off_number (bits_of x.status) (setpoints_with x given)) ∙ ap (λ (s : Kw). off_number (bits_of x.status) (setpoints_with x s)) given_is
       where
-        go : (n : ℕ) → number_in (step_by n st (accepted_in sh st x (kinds_in sh st x given band) (mfrr.accepted_in sh taken).state m w)).answer ≡ n
+        go : (n : ℕ) → answer_number (step_by n st (accepted_in sh st x (kinds_in sh st x given band) (mfrr.accepted_in sh taken).state m w)).answer ≡ n
         go zero = refl
         go (suc n) = refl
 
-    by_call : number_in (call_step_in sh st x m w).answer ≡ or_else call_number_in off_number_in
+    by_call : answer_number (call_step_in sh st x m w).answer ≡ or_else call_number_in off_number_in
     unfolding call_step_in mfrr.step_in mfrr.step_by mfrr.accepted_in
     by_call = go call_number_in
       where
         go : (n : ℕ)
-            → number_in (given_in sh (mfrr.step_by n st.mfrr (mfrr.accepted_in sh taken)).answer (mfrr.step_by n st.mfrr (mfrr.accepted_in sh taken)).state st x m w).answer
+            → answer_number (given_in sh (mfrr.step_by n st.mfrr (mfrr.accepted_in sh taken)).answer (mfrr.step_by n st.mfrr (mfrr.accepted_in sh taken)).state st x m w).answer
             ≡ or_else n off_number_in
         go zero = by_off
         go (suc n) = refl
 
-    at_record : number_in (record_step_in sh st x m w).answer ≡ first (record_rules_in st x)
+    at_record : answer_number (record_step_in sh st x m w).answer ≡ first (record_rules_in st x)
     unfolding record_step_in
     at_record = go (record_number st.seconds st.last_status x) ∙ sym parts
       where
-        go : (n : ℕ) → number_in (step_by n st (call_step_in sh st x m w)).answer ≡ or_else n (or_else call_number_in off_number_in)
+        go : (n : ℕ) → answer_number (step_by n st (call_step_in sh st x m w)).answer ≡ or_else n (or_else call_number_in off_number_in)
         go zero = by_call
         go (suc n) = refl
 
-pub at_any_state : (sh : Sheet) (st : PlantState) (s : List ℕ) (m w : ℤ) → number_in (step_in sh st s m w).answer ≡ first (rules_in st s)
+pub at_any_state : (sh : Sheet) (st : PlantState) (s : List ℕ) (m w : ℤ) → answer_number (step_in sh st s m w).answer ≡ first (rules_in st s)
 unfolding step_in reading_of
 at_any_state sh st s m w = go (eqb (length s) size)
   where
-    go : (t : Bool) → number_in (read_in sh (cond t (answer.Given (record_of s)) (answer.Refused 12)) st m w).answer ≡ cond (not t) 12 (first (record_rules_in st (record_of s)))
+    go : (t : Bool) → answer_number (read_in sh (cond t (answer.Given (record_of s)) (answer.Refused 12)) st m w).answer ≡ cond (not t) 12 (first (record_rules_in st (record_of s)))
     go true = at_record sh st (record_of s) m w
     go false = refl

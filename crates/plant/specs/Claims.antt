@@ -9,10 +9,9 @@ use Rattle.record.specs.declared.Record.{Record}
 use Rattle.record.specs.Record.{record_of, bits_of}
 use Rattle.row.specs.Fits.{Row32}
 use Rattle.row.specs.Row.{kinds_of, AllInBand, sum_actuals}
-use Rattle.sharing.specs.declared.kinds.Kind.{Kind}
 use Rattle.sharing.specs.Sizes.{SizedRow}
 use Rattle.sharing.specs.Shares.{some_on}
-use Rattle.sharing.specs.Rows.{kinds_on, error_of, total_of, three}
+use Rattle.sharing.specs.Rows.{Kind, kinds_on, error_of, total_of, three}
 use Rattle.plant.specs.Seconds.{History, Closed, last_status_of}
 use Rattle.plant.specs.Refusals.{status_moved, record_number_at, number_at, base_number_at, free_rules_at, free_number_at, Accepted}
 use Rattle.plant.specs.Rows.{kinds_at, shared_difference, row_at, answer_at}

@@ -1,7 +1,7 @@
 -- What a plant's state holds after a past, and a plant second from any state: the rules of specs/Refusals.antt and the row of specs/Rows.antt,
 -- on what the state holds.
 use Rattle.std.specs.Prelude.{ℕ, zero, suc, ◌+◌, ◌≤◌, ◌≡◌, List, [], ◌∷◌, ℤ, length}
-use Rattle.refusals.specs.Refusals.{Answer}
+use Rattle.refusals.specs.Refusals.{Answer, answer_number}
 use Rattle.refusals.specs.Refusals as answer
 use Rattle.numbers.specs.Bounds.{Within}
 use Rattle.numbers.specs.Rules.{Rule, first}
@@ -13,6 +13,7 @@ use Rattle.sheet.specs.Sheet.{InRange}
 use Rattle.record.specs.declared.Record.{Record}
 use Rattle.record.specs.Record.{most_seconds, record_of, reading_of, bits_of}
 use Rattle.row.specs.declared.Row.{Row}
+use Rattle.sharing.specs.declared.kinds.Kinds.{Kinds}
 use Rattle.sharing.specs.Sizes.{SizedKinds, SizedRow}
 use Rattle.fcr.specs.declared.FcrState.{FcrState}
 use Rattle.fcr.specs.State as fcr
@@ -26,11 +27,10 @@ use Rattle.mfrr.specs.Signal as mfrr-signal
 use Rattle.mfrr.specs.Refusals.{call_rules}
 use Rattle.mfrr.specs.State as mfrr
 use Rattle.mfrr.specs.State.{MfrrStep}
-use Rattle.plant.specs.declared.Kinds.{Kinds}
 use Rattle.plant.specs.declared.PlantState.{PlantState}
 use Rattle.plant.specs.Seconds.{History, Closed, last_status_of, fcr_setpoint, fcr_past, afrr_second, afrr_past, mfrr_second, mfrr_past, setpoints_with}
 use Rattle.plant.specs.Refusals.{most_power, record_number, off_number, rules_with, length_rule, number_at, Accepted, grown}
-use Rattle.plant.specs.Rows.{kinds_with, shared_difference, row_by, said_at, answer_at, says, number_in}
+use Rattle.plant.specs.Rows.{kinds_with, shared_difference, row_by, said_at, answer_at, says}
 
 -- ---- after a past
 
@@ -54,7 +54,7 @@ pub record PlantStep : Type 0 where
 -- it is refused, this second leave
 pub record OverPast (sh : Sheet) (c : Closed) (h : History) (s : List ℕ) (m w : ℤ) (r : PlantStep) : Type 0 where
   pub said : says r.answer ≡ said_at sh c h s m w
-  pub number : number_in r.answer ≡ number_at c h s
+  pub number : answer_number r.answer ≡ number_at c h s
   pub answer : r.answer ≡ answer_at sh c h s m w
   pub state : r.state ≡ state_of sh c (grown c h s)
   pub stays : Accepted c (grown c h s)
@@ -163,7 +163,7 @@ abbrev pub most_added : ℕ
 most_added = 40000000
 
 -- what sharing may add to measured, and to working point: the unit's
-pub record Added (m w : ℤ) : Type 0 where
+pub record AddedWithin (m w : ℤ) : Type 0 where
   pub measured : Within most_added m
   pub working_point_is : Within most_power w
 
@@ -172,7 +172,7 @@ pub record Shareable (x : Record) (k : Kinds) (m w : ℤ) : Type 0 where
   pub measured : Within most_power x.measured.0
   pub working_point_is : Within most_power x.working_point.0
   pub kinds : SizedKinds k.fcr k.afrr k.mfrr
-  pub added : Added m w
+  pub added : AddedWithin m w
 
 -- of a second that gave the row q: measured and working point are in range, and so are the row's figures where measured - working point,
 -- as shared, is within D
@@ -195,7 +195,7 @@ pub record CallStepped (sh : Sheet) (st : PlantState) (x : Record) (m w : ℤ) (
 pub record Stepped (sh : Sheet) (st : PlantState) (s : List ℕ) (m w : ℤ) (r : PlantStep) : Type 0 where
   pub is : r ≡ step_in sh st s m w
   -- its number is the first of one list of rules, 0 with a row
-  pub number : number_in r.answer ≡ first (rules_in st s)
+  pub number : answer_number r.answer ≡ first (rules_in st s)
   -- where accepted seconds left the state: 01's figures or number over them, and the state that the longer list leaves
   pub past : (c : Closed) (h : History) → Accepted c h → st ≡ state_of sh c h → OverPast sh c h s m w r
   -- "State unchanged"

@@ -1,6 +1,6 @@
 -- Values at the edges of a plant's rules and figures, so that a fault in definition and code alike is refused. The proof is `values` of
 -- proofs/Values.antt.
-use Rattle.std.specs.Prelude.{◌≡◌, Bool, true, false, List, [], ◌∷◌, map, ℕ, ℤ, pos, negsuc, neg_ℤ, replicate}
+use Rattle.std.specs.Prelude.{◌≡◌, Bool, true, false, Some, None, List, [], ◌∷◌, map, ℕ, ℤ, pos, negsuc, neg_ℤ, replicate}
 use Rattle.numbers.specs.Rules.{refuse, first}
 use Rattle.power.specs.declared.limits.Band.{Band}
 use Rattle.power.specs.Units.{kw}
@@ -8,7 +8,8 @@ use Rattle.record.specs.declared.KindBits.{KindBits}
 use Rattle.record.specs.declared.Record.{Record}
 use Rattle.row.specs.declared.Rounding.{Rounding}
 use Rattle.row.specs.declared.KindRow.{KindRow}
-use Rattle.plant.specs.declared.Kinds.{Kinds}
+use Rattle.sharing.specs.declared.kinds.Kinds.{Kinds}
+use Rattle.sharing.specs.Rows.{Kind}
 use Rattle.plant.specs.declared.Setpoints.{Setpoints}
 use Rattle.mfrr.specs.Signal.{quiet}
 use Rattle.plant.specs.Seconds.{moved_on, mfrr_second, afrr_second, setpoints_with, setpoints_at}
@@ -89,13 +90,12 @@ rounding t f r x = record { tolerance = t; floor = f; remainder = r; extra = x }
 abbrev pub kinds_in : ℕ → Kinds
 kinds_in n = kinds_with (in_status n) (setpoints (pos 1) (pos 2) (pos 3)) (band (pos 4) (pos 5)) (band (pos 6) (pos 7)) (band (pos 8) (pos 9))
 
-abbrev pub kinds_on : Bool → Bool → Bool → Kinds
-kinds_on f a m =
-    record {
-      fcr = record { on = f; setpoint = kw (pos 1); band = band (pos 4) (pos 5) };
-      afrr = record { on = a; setpoint = kw (pos 2); band = band (pos 6) (pos 7) };
-      mfrr = record { on = m; setpoint = kw (pos 3); band = band (pos 8) (pos 9) };
-    }
+-- a kind on; of one off setpoint and band are not even kept
+abbrev kind : ℤ → ℤ → ℤ → Kind
+kind s low high = Some (record { setpoint = kw s; band = band low high })
+
+abbrev kinds : Kind → Kind → Kind → Kinds
+kinds f a m = record { fcr = f; afrr = a; mfrr = m }
 
 pub record Values : Type 0 where
   -- ---- the ends of each range (01, "When a book is turned down")
@@ -185,9 +185,9 @@ pub record Values : Type 0 where
       ≡ 7 ∷ 8 ∷ []
   pub twelve_first : number_at [] [] (replicate 35 255) ≡ 12
   -- ---- what stands where
-  pub on_first : kinds_in 1 ≡ kinds_on true false false
-  pub on_second : kinds_in 2 ≡ kinds_on false true false
-  pub on_third : kinds_in 4 ≡ kinds_on false false true
+  pub on_first : kinds_in 1 ≡ kinds (kind (pos 1) (pos 4) (pos 5)) None None
+  pub on_second : kinds_in 2 ≡ kinds None (kind (pos 2) (pos 6) (pos 7)) None
+  pub on_third : kinds_in 4 ≡ kinds None None (kind (pos 3) (pos 8) (pos 9))
   pub afrr_second_lem : afrr_second (fields (pos 0) (pos 0) (pos 0) (pos 1) (pos 2) (pos 3) (pos 0) 0 (pos 0) 0 0) ≡ record { setpoint = kw (pos 3); up = kw (pos 1); down = kw (pos 2) }
   pub setpoints_with_lem : setpoints_with (fields (pos 0) (pos 0) (pos 400) (pos 0) (pos 0) (pos 3) (pos 0) 0 (pos 200) 0 0) (kw (pos 5)) ≡ setpoints (neg_ℤ (pos 400)) (pos 3) (pos 5)
   pub shared : shared_difference (powers (pos 100) (pos 30)) (pos 7) (pos 2) ≡ pos 75

@@ -7,16 +7,16 @@ use Rattle.plant.proofs.Steps.{CallPassed, KindsGiven, record_passed, told_left,
 use Rattle.plant.proofs.PlantState.second_of.Goals as goal
 use Rattle.plant.proofs.PlantState.second_of.Goals.{In_ok-value, After-kinds_of-kinds}
 
-called : (c : In_ok-value) → CallPassed c.args.sheet c.args.self.now c.args.x c.in_ok-value.value c.step.new.self c.args.added_measured.0 c.args.added_point.0
-called c = call_passed (record_passed c.requires) (rw c.call_of.ensures at c.step.ensures) (ap told c.in_ok-value.was)
+called : (c : In_ok-value) → CallPassed c.args.sheet c.args.self.now c.args.x c.in_ok-value.value c.step.new.self c.args.added.measured.0 c.args.added.point.0
+called c = call_passed (record_passed c.args.added.within c.requires) (rw c.call_of.ensures at c.step.ensures) (ap told c.in_ok-value.was)
 
 pub returns-in_err-value : goal.returns-in_err-value
 returns-in_err-value c =
     rw (told_left _ _ c.from_residual.ensures.1)
-    (call_refused (record_passed c.requires) (rw c.call_of.ensures at c.step.ensures) (ap told c.in_err-value.was))
+    (call_refused (record_passed c.args.added.within c.requires) (rw c.call_of.ensures at c.step.ensures) (ap told c.in_err-value.was))
 
 pub setpoints_of-setpoints-requires : goal.setpoints_of-setpoints-requires
-setpoints_of-setpoints-requires c = (record_passed c.requires).passed.fcr_held_is.range
+setpoints_of-setpoints-requires c = (record_passed c.args.added.within c.requires).passed.fcr_held_is.range
 
 pub returns-in_err-check_off : goal.returns-in_err-check_off
 returns-in_err-check_off c =
@@ -26,7 +26,7 @@ returns-in_err-check_off c =
 
 pub step-fcr_band-requires : goal.step-fcr_band-requires
 step-fcr_band-requires c =
-    let q = record_passed c.requires in (
+    let q = record_passed c.args.added.within c.requires in (
       q.ready.sheet,
       q.ready.fcr,
       record {
@@ -38,7 +38,7 @@ step-fcr_band-requires c =
 
 pub step-afrr_band-requires : goal.step-afrr_band-requires
 step-afrr_band-requires c =
-    let q = record_passed c.requires in
+    let q = record_passed c.args.added.within c.requires in
     (q.ready.sheet, q.ready.afrr, rw c.afrr_second.ensures (afrr_second_fair c.args.self.now.seconds c.args.x q.passed))
 
 kinds_given : (c : After-kinds_of-kinds) → KindsGiven c.args.sheet c.args.self.now c.args.x c.in_ok-value.value c.setpoints_of-setpoints.result (record { band = c.step-fcr_band.result; state = c.step-fcr_band.new.self }) (record { band = c.step-afrr_band.result; state = c.step-afrr_band.new.self }) c.kinds_of-kinds.result
