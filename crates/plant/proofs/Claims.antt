@@ -1,17 +1,8 @@
 -- Every list of plant seconds from a fresh state, and every accepted second's row. Assumes nothing.
-use mathlib.Core.Path.{◌≡◌, refl, sym, ap, ◌∙◌, subst}
-use mathlib.Core.Bool.{Bool, true, false, not, cond}
-use mathlib.Core.List.{List, [], ◌∷◌}
-use Prim.Native.Nat.{ℕ, zero, suc, ◌+◌, ◌*◌, ◌-◌, ◌%◌, ◌^◌, ◌≤◌}
-use native.Mathlib.Omega.{arith}
-use lib.Dec.{T, leb, eqb}
-use lib.IntN.{ℤ, pos}
-use lib.ListN.{length}
+use Rattle.std.proofs.Common.{◌≡◌, refl, sym, ap, ◌∙◌, subst, Bool, true, false, not, cond, List, [], ◌∷◌, ℕ, zero, suc, ◌+◌, ◌*◌, ◌-◌, ◌%◌, ◌^◌, ◌≤◌, arith, T, leb, eqb, ℤ, pos, length, w32, SFits, Fits-le, Fits-lit}
 use Rattle.refusals.specs.Refusals.{answer_number, Answer, answer_by}
 use Rattle.numbers.specs.Bounds.{Within}
-use mir.Syntax.{w32}
-use mir.Val.{SFits, hbits}
-use mir.Facts.{Fits-le, Fits-lit}
+use mir.Val.{hbits}
 use Rattle.numbers.proofs.Fit.{within_le, within_lit, fits_by}
 use Rattle.power.specs.declared.limits.Limits.{Limits}
 use Rattle.power.specs.Units.{most_reserve}

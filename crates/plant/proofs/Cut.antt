@@ -1,12 +1,7 @@
 -- A list of accepted seconds cut once gives the second book the same timeline. Assumes nothing.
-use mathlib.Core.Path.{◌≡◌, refl, sym, ap, ◌∙◌}
-use mathlib.Core.Bool.{Bool, true, false, cond, ◌&&◌, ◌||◌}
-use mathlib.Core.List.{[], ◌∷◌, ◌++◌, map}
-use Prim.Native.Nat.{ℕ, zero, suc, ◌+◌, ◌-◌, ◌%◌, ◌≤◌}
-use native.Mathlib.Omega.{arith}
-use borrow.Author.Tests.{leb-false, lt-leb, ne_eqb}
-use lib.Dec.{eqb, ltb}
-use lib.ListN.{length, length-map, length-append}
+use Rattle.std.proofs.Common.{◌≡◌, refl, sym, ap, ◌∙◌, Bool, true, false, cond, ◌&&◌, ◌||◌, [], ◌∷◌, ◌++◌, map, ℕ, zero, suc, ◌+◌, ◌-◌, ◌%◌, ◌≤◌, arith, leb-false, ne_eqb, eqb, ltb, length, length-append}
+use borrow.Author.Tests.{lt-leb}
+use lib.ListN.{length-map}
 use Rattle.numbers.specs.Rules.{differ}
 use Rattle.numbers.proofs.Rules.{none, neither}
 use Rattle.power.specs.Units.{kw}

@@ -1,12 +1,6 @@
 -- The closed books' seconds and a book's own on one timeline. Assumes nothing.
-use mathlib.Core.Path.{◌≡◌, refl, ap, ◌∙◌}
-use mathlib.Core.Bool.{Bool, true, false, cond}
-use mathlib.Core.List.{[], ◌∷◌, map}
-use Rattle.std.proofs.Common.{Option, Some, None}
-use Prim.Native.Nat.{ℕ, ◌+◌, ◌%◌}
-use native.Mathlib.Omega.{arith}
-use lib.Dec.{eqb}
-use lib.ListN.{length, length-map, length-append}
+use Rattle.std.proofs.Common.{◌≡◌, refl, ap, ◌∙◌, Bool, true, false, cond, [], ◌∷◌, map, Option, Some, None, ℕ, ◌+◌, ◌%◌, arith, eqb, length, length-append}
+use lib.ListN.{length-map}
 use Rattle.record.specs.declared.Record.{Record}
 use Rattle.mfrr.specs.declared.Call.{Call}
 use Rattle.mfrr.specs.Signal as mfrr

@@ -1,11 +1,5 @@
 -- 11, 24 and 25 turn down the seconds that 01's 11 turned down. Assumes nothing.
-use mathlib.Core.Path.{◌≡◌, refl}
-use mathlib.Core.Logic.{◌⊎◌, inl, inr}
-use mathlib.Core.Bool.{Bool, true, false, cond}
-use mathlib.Core.List.{List, [], ◌∷◌, ◌++◌}
-use Prim.Native.Nat.{ℕ}
-use native.Mathlib.Omega.{arith}
-use lib.ListN.{length}
+use Rattle.std.proofs.Common.{◌≡◌, refl, ◌⊎◌, inl, inr, Bool, true, false, cond, List, [], ◌∷◌, ◌++◌, ℕ, arith, length}
 use Rattle.numbers.specs.Rules.{Rule, first}
 use Rattle.record.specs.declared.KindBits.{KindBits}
 use Rattle.record.specs.Record.{record_of, bits_of}

@@ -1,10 +1,5 @@
 -- The claims of specs/Claims.antt. Assumes nothing.
-use mathlib.Core.Path.{◌≡◌, refl, sym, subst}
-use mathlib.Core.Bool.{Bool, true, false, not, cond}
-use mathlib.Core.Logic.{◌↔◌}
-use Prim.Native.Nat.{ℕ}
-use native.Mathlib.Omega.{arith}
-use lib.Dec.{T}
+use Rattle.std.proofs.Common.{◌≡◌, refl, sym, subst, Bool, true, false, not, cond, ◌↔◌, ℕ, arith, T}
 use lib.Signed.{lt_z, lt_z_yes, lt_z_no, clash_ℤ}
 use Rattle.row.specs.declared.KindRow.{KindRow}
 use Rattle.row.specs.declared.side.BandSide.TheVariants.{Within, Below, Above}

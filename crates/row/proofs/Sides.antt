@@ -1,13 +1,6 @@
 -- What the larger of two 32-bit numbers has more fits an unsigned one. Assumes nothing.
-use mathlib.Core.Path.{◌≡◌, sym, subst}
-use mathlib.Core.Bool.{true}
-use Prim.Native.Nat.{◌^◌, ◌<◌}
-use native.Mathlib.Omega.{arith}
-use lib.Dec.{T}
-use lib.IntN.{ℤ, pos, negsuc, nat_abs, ◌-ℤ◌}
-use lib.Signed.{lt_z, non_neg, ◌<ℤ◌}
-use mir.Syntax.{w32, w64}
-use mir.Val.{SFits, Fits}
+use Rattle.std.proofs.Common.{◌≡◌, sym, subst, true, ◌^◌, ◌<◌, arith, T, ℤ, pos, negsuc, nat_abs, ◌-ℤ◌, ◌<ℤ◌, w32, w64, SFits, Fits}
+use lib.Signed.{lt_z, non_neg}
 use Rattle.numbers.proofs.Parts.{up, dn, lt_nat, sub_nat, one_nat, abs_nat, fits_nat, fits_order}
 
 up_small : (z : ℤ) → SFits w32 z → up z < 2 ^ 31

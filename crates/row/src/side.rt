@@ -27,6 +27,7 @@ pub struct KindCounts {
     pub above: SideCount,
 }
 
+// Three of a type: `plant/src/lib.rt` says why no generic struct stands here, at `Setpoints`.
 #[derive(Clone, Copy)]
 pub struct PlantCounts {
     pub fcr: KindCounts,

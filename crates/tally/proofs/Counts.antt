@@ -1,8 +1,5 @@
 -- Counts with a second more, by the side of the band, and counts of fewer seconds. Assumes nothing.
-use mathlib.Core.Path.{◌≡◌}
-use Prim.Native.Nat.{ℕ, ◌+◌, ◌≤◌}
-use native.Mathlib.Nat.{add-zero}
-use native.Mathlib.Omega.{arith}
+use Rattle.std.proofs.Common.{◌≡◌, ℕ, ◌+◌, ◌≤◌, add-zero, arith}
 use Rattle.row.specs.declared.KindRow.{KindRow}
 use Rattle.row.specs.declared.side.BandSide.TheVariants.{Within, Below, Above}
 use Rattle.row.specs.declared.side.SideCount.{SideCount}

@@ -21,7 +21,7 @@ fn once_more(c: SideCount, kw: u32) -> SideCount
 {
     SideCount {
         seconds: c.seconds + 1,
-        kw_seconds: c.kw_seconds + kw as u64,
+        kw_seconds: c.kw_seconds + u64::from(kw),
     }
 }
 
