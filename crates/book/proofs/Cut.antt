@@ -1,12 +1,7 @@
 -- A list of accepted seconds cut once: each plant's own seconds are cut likewise, so each row is the one of the one book. Assumes nothing.
-use mathlib.Core.Path.{◌≡◌, refl, sym, ap, ◌∙◌, subst}
-use mathlib.Core.List.{List, [], ◌∷◌, ◌++◌, map, append_assoc}
-use Prim.Native.Nat.{ℕ, ◌%◌, ◌*◌}
-use native.Mathlib.Omega.{arith}
-use borrow.Author.Tests.{eq-eqb}
-use lib.IntN.{ℤ, pos, ◌+ℤ◌, +ℤ_assoc, +ℤ_idr}
-use lib.ListN.{length, take, drop, length-map, length-append}
-use lib.Seq.{take_at, drop_at, take_all}
+use Rattle.std.proofs.Common.{◌≡◌, refl, sym, ap, ◌∙◌, subst, List, [], ◌∷◌, ◌++◌, map, append_assoc, ℕ, ◌%◌, ◌*◌, arith, eq-eqb, ℤ, pos, ◌+ℤ◌, length, take, drop, length-append, take_at, drop_at, take_all}
+use lib.IntN.{+ℤ_assoc, +ℤ_idr}
+use lib.ListN.{length-map}
 use Rattle.sheet.specs.declared.Sheet.{Sheet}
 use Rattle.sheet.specs.Sheet.{InRange}
 use Rattle.record.specs.declared.Record.{Record}

@@ -1,11 +1,6 @@
 -- A handover, by the length of the closing book. Assumes nothing.
-use mathlib.Core.Path.{◌≡◌, refl, sym, ap, ◌∙◌}
-use mathlib.Core.Bool.{Bool, true, false, not}
-use mathlib.Core.List.{[], ◌∷◌}
-use Prim.Native.Nat.{ℕ, ◌%◌}
-use borrow.Author.Tests.{eq-eqb, ne_eqb}
-use lib.Dec.{eqb}
-use lib.ListN.{length, length-map}
+use Rattle.std.proofs.Common.{◌≡◌, refl, sym, ap, ◌∙◌, Bool, true, false, not, [], ◌∷◌, ℕ, ◌%◌, eq-eqb, ne_eqb, eqb, length}
+use lib.ListN.{length-map}
 use Rattle.sheet.specs.declared.Sheet.{Sheet}
 use Rattle.mfrr.specs.Signal.{quarter_hour}
 use Rattle.plant.specs.declared.PlantState.{PlantState}

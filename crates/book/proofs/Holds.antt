@@ -1,9 +1,5 @@
 -- What holds of an accepted second's rows: sharing, and how large the figures are. Assumes nothing.
-use mathlib.Core.Path.{◌≡◌}
-use mathlib.Core.List.{List}
-use native.Mathlib.Omega.{arith}
-use Prim.Native.Nat.{ℕ}
-use lib.IntN.{pos}
+use Rattle.std.proofs.Common.{◌≡◌, List, arith, ℕ, pos}
 use Rattle.numbers.proofs.Fit.{fit, within_lit}
 use Rattle.sheet.specs.declared.Sheet.{Sheet}
 use Rattle.sheet.specs.Sheet.{InRange}
@@ -13,7 +9,7 @@ use Rattle.sharing.specs.Sizes.{SizedRow}
 use Rattle.plant.specs.Refusals as plant
 use Rattle.plant.specs.Refusals.{most_power}
 use Rattle.plant.specs.Seconds as plant-seconds
-use Rattle.plant.specs.State.{most_added, Added}
+use Rattle.plant.specs.State.{most_added, AddedWithin}
 use Rattle.plant.specs.Claims.{RowHolds}
 use Rattle.plant.proofs.Past.{clear}
 use Rattle.plant.proofs.Claims.{record_number_lem, row_holds, row_fits, none_added}
@@ -44,7 +40,7 @@ module _ (sh : Sheet) (i : InRange sh) (c : Closed) (h : History) (s : BookSecon
       (shared_within 0 0 most_at_unit _ (pos 0) (pos 0) (omega arith) unit_range (within_lit 0 (pos 0) tt) (within_lit 0 (pos 0) tt))
 
   -- what a pool's measured has added is small
-  added : (p : Pool) → Added (added_to p s (unit_row_at sh c h s)) (unit_point s.bytes)
+  added : (p : Pool) → AddedWithin (added_to p s (unit_row_at sh c h s)) (unit_point s.bytes)
   added p =
       record {
         measured = added_small _ (p.sold s.owner) (unit_row_at sh c h s) unit_range.working_point_is unit_sized;

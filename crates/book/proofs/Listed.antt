@@ -1,10 +1,6 @@
 -- A list of book seconds in one slice, taken from the front. Assumes nothing.
-use Prim.Native.Nat.{ℕ, zero, suc, ◌-◌, ◌≤◌, ◌<◌}
-use mathlib.Core.Path.{◌≡◌, refl, sym, ap, ◌∙◌, subst}
-use mathlib.Core.List.{List, [], ◌∷◌, ◌++◌}
-use native.Mathlib.Omega.{arith}
-use lib.ListN.{length, get_or, take, drop, length-drop, drop_of_length-le}
-use lib.Seq.{take_all, take-append_seam, drop-append_seam}
+use Rattle.std.proofs.Common.{ℕ, zero, suc, ◌-◌, ◌≤◌, ◌<◌, ◌≡◌, refl, sym, ap, ◌∙◌, subst, List, [], ◌∷◌, ◌++◌, arith, length, get_or, take, drop, length-drop, drop_of_length-le, take_all}
+use lib.Seq.{take-append_seam, drop-append_seam}
 use Rattle.sheet.specs.Sheet.{InRange}
 use Rattle.book.specs.Answers.{BookStep}
 use Rattle.book.specs.Seconds.{BookSecond}

@@ -1,6 +1,5 @@
 -- A fresh book opened under a sheet, by the sheet's number. Assumes nothing.
-use mathlib.Core.Path.{◌≡◌, sym, ◌∙◌}
-use native.Mathlib.Omega.{arith}
+use Rattle.std.proofs.Common.{◌≡◌, sym, ◌∙◌, arith}
 use Rattle.refusals.specs.declared.Refusal.{Refusal}
 use Rattle.refusals.specs.Refusals.{number_of, Given, Refused}
 use Rattle.refusals.proofs.Laws.{number_positive, refused_by, not_zero}

@@ -1,8 +1,5 @@
 -- A book second at the book that accepted seconds leave is the second over those seconds. Assumes nothing.
-use mathlib.Core.Path.{◌≡◌, refl, ap, ◌∙◌}
-use mathlib.Core.List.{List, [], ◌∷◌}
-use Prim.Native.Nat.{ℕ, zero, suc}
-use lib.IntN.{ℤ, pos}
+use Rattle.std.proofs.Common.{◌≡◌, refl, ap, ◌∙◌, List, [], ◌∷◌, ℕ, zero, suc, ℤ, pos}
 use lib.ListN.{length-map}
 use Rattle.numbers.specs.Rules.{or_else}
 use Rattle.numbers.proofs.Rules.{neither}

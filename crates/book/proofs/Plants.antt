@@ -1,19 +1,15 @@
 -- The book second plant by plant. Assumes nothing.
-use mathlib.Core.Path.{◌≡◌, refl, sym, ap, ◌∙◌, subst}
-use mathlib.Core.List.{List}
-use Prim.Native.Nat.{ℕ, ◌+◌, ◌≤◌}
-use native.Mathlib.Omega.{arith}
-use lib.IntN.{ℤ, pos, ◌+ℤ◌}
+use Rattle.std.proofs.Common.{length, subst₂, ◌≡◌, refl, sym, ap, ◌∙◌, List, ℕ, ◌+◌, ◌≤◌, arith, ℤ, pos, ◌+ℤ◌}
 use Rattle.numbers.specs.Bounds.{Within}
 use Rattle.numbers.proofs.Fit.{fit, within_lit}
 use Rattle.refusals.specs.Refusals as plant-answer
 use Rattle.sheet.specs.declared.Sheet.{Sheet}
 use Rattle.record.specs.declared.KindBits.{KindBits}
-use Rattle.record.specs.declared.Record.{Record}
-use Rattle.record.specs.Record.{most_seconds, record_of, bits_of}
+use Rattle.record.specs.Record.{size, most_seconds, record_of}
 use Rattle.row.specs.declared.Row.{Row}
 use Rattle.row.specs.declared.sums.Sums.{Sums}
 use Rattle.sharing.specs.Sizes.{SizedRow}
+use Rattle.plant.specs.declared.Added.{Added}
 use Rattle.plant.specs.declared.PlantState.{PlantState}
 use Rattle.plant.specs.Refusals.{most_power}
 use Rattle.plant.specs.State as plant
@@ -23,8 +19,8 @@ use Rattle.book.specs.declared.Book.{Book}
 use Rattle.book.specs.declared.Plant.TheVariants.{U, A, B}
 use Rattle.book.specs.Answers.{BookStep, Rows}
 use Rattle.book.specs.Seconds.{due_from, due_of}
-use Rattle.book.specs.Rows.{values_of, others, sold_by_a, sold_by_b, unit_point, Pool, pool_a, pool_b}
-use Rattle.book.specs.State.{second_of, unit_in, pool_in, sums_with, refused_by, plants_in, most_at_unit, most_at_pool, Ready, SumsReady, PowersInRange, Summed, PartsOf, PlantsStepped}
+use Rattle.book.specs.Rows.{values_of, unit_point, Pool, pool_a, pool_b}
+use Rattle.book.specs.State.{second_of, unit_in, pool_in, sums_with, refused_by, plants_in, most_at_unit, most_at_pool, Ready, SumsReady, PowersInRange, Readable, AddedFor, Summed, PartsOf, PlantsStepped}
 use Rattle.book.proofs.Sizes.{added_small, shared_within, difference_small, sums_longer, sums_more}
 
 -- ---- a plant's second
@@ -57,6 +53,9 @@ module _ {sh : Sheet} {st : PlantState} {u : List ℕ} {r : Row} {q : PlantState
   pub point_small : Within most_power (point u)
   point_small = (range g).working_point_is
 
+  pub readable : length u ≡ size → Readable u
+  readable l = record { whole = l; range = range g }
+
   pub unit_sized : SizedRow most_at_unit r
   unit_sized = sized g 0 0 most_at_unit (omega arith) (within_lit 0 (pos 0) tt) (within_lit 0 (pos 0) tt)
 
@@ -66,20 +65,10 @@ module _ {sh : Sheet} {st : PlantState} {u : List ℕ} {r : Row} {q : PlantState
 abbrev pub added : KindBits → List ℕ → Row → ℤ
 added b u r = point u +ℤ values_of b r
 
--- its second, as it is asked with the unit's record x and the kinds that the owner's bits say that B sells
-module _ (o : ℕ) (u : List ℕ) (r : Row) {x : Record} {sold : KindBits} {sh : Sheet} {st : PlantState} {s : List ℕ} {m : ℤ} {p : PlantStep} (ex : x ≡ record_of u) (es : sold ≡ bits_of o) where
-  asked : {b y : KindBits} → y ≡ b → m ≡ x.working_point.0 +ℤ values_of y r → plant.Stepped sh st s m x.working_point.0 p → plant.Stepped sh st s (added b u r) (point u) p
-  asked eb em h =
-      subst (λ (n : ℤ). plant.Stepped sh st s n (point u) p) (em ∙ (λ i. (ex i).working_point.0 +ℤ values_of (eb i) r))
-      (subst (λ (z : Record). plant.Stepped sh st s m z.working_point.0 p) ex h)
-
-  pub a_asked :
-      {y : KindBits} → y ≡ others sold → m ≡ x.working_point.0 +ℤ values_of y r → plant.Stepped sh st s m x.working_point.0 p
-      → plant.Stepped sh st s (added (sold_by_a o) u r) (point u) p
-  a_asked e em h = asked (e ∙ ap others es) em h
-
-  pub b_asked : m ≡ x.working_point.0 +ℤ values_of sold r → plant.Stepped sh st s m x.working_point.0 p → plant.Stepped sh st s (added (sold_by_b o) u r) (point u) p
-  b_asked em h = asked es em h
+-- its second, as it is asked with what sharing adds
+pub asked : {b : KindBits} {u : List ℕ} {r : Row} {g : Added} {sh : Sheet} {st : PlantState} {s : List ℕ} {p : PlantStep} → AddedFor b u r g
+    → plant.Stepped sh st s g.measured.0 g.point.0 p → plant.Stepped sh st s (added b u r) (point u) p
+asked {sh = sh} {st = st} {s = s} {p = p} f h = subst₂ (λ (m w : ℤ). plant.Stepped sh st s m w p) f.measured f.point h
 
 -- ---- what `plants` is given: the book k, the owner o, and the bytes u, a and b
 

@@ -1,14 +1,7 @@
 -- A second's figures and their sums are small enough. Assumes nothing.
-use mathlib.Core.Path.{◌≡◌}
-use mathlib.Core.Bool.{Bool, true, false}
-use Prim.Native.Nat.{ℕ, ◌+◌, ◌*◌, ◌≤◌, zero-le}
-use native.Mathlib.Nat.{mul-le-mul_right}
-use native.Mathlib.Omega.{arith}
+use Rattle.std.proofs.Common.{◌≡◌, Bool, true, false, ℕ, ◌+◌, ◌*◌, ◌≤◌, zero-le, mul-le-mul_right, arith, ℤ, pos, ◌+ℤ◌, w32, w64, SFits}
 use Rattle.std.proofs.lemmas.Int.{ints}
-use lib.IntN.{ℤ, pos, ◌+ℤ◌}
 use Rattle.numbers.specs.Bounds.{Within}
-use mir.Syntax.{w32, w64}
-use mir.Val.{SFits}
 use Rattle.numbers.proofs.Fit.{fit}
 use Rattle.power.specs.Units.{most_reserve}
 use Rattle.record.specs.declared.KindBits.{KindBits}

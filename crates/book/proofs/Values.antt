@@ -1,5 +1,5 @@
 -- The values of specs/Values.antt, computed. Assumes nothing.
-use mathlib.Core.Path.{refl}
+use Rattle.std.proofs.Common.{refl}
 use Rattle.record.specs.Record.{bits_of}
 use Rattle.book.specs.Refusals.{form_number}
 use Rattle.book.specs.HandOver.{hand_over_number}

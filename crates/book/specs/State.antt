@@ -6,10 +6,12 @@ use Rattle.sheet.specs.declared.Sheet.{Sheet}
 use Rattle.refusals.specs.Refusals as plant-answer
 use Rattle.refusals.specs.Refusals.{Answer}
 use Rattle.record.specs.Record.{size, record_of}
+use Rattle.record.specs.declared.KindBits.{KindBits}
 use Rattle.record.specs.declared.Record.{Record}
 use Rattle.row.specs.declared.Row.{Row}
 use Rattle.row.specs.declared.sums.Sums.{Sums}
 use Rattle.sharing.specs.Sizes.{SizedRow}
+use Rattle.plant.specs.declared.Added.{Added}
 use Rattle.plant.specs.declared.PlantState.{PlantState}
 use Rattle.plant.specs.State as plant
 use Rattle.plant.specs.State.{PlantStep, most_added}
@@ -20,7 +22,7 @@ use Rattle.book.specs.declared.Plant.TheVariants.{U, A, B}
 use Rattle.book.specs.Answers.{BookStep, Rows, Refused, RefusedBy}
 use Rattle.book.specs.Seconds.{BookSecond, History, Closed, unit_bytes, a_bytes, b_bytes, past_of, closed_of, due_of}
 use Rattle.book.specs.Refusals.{form_number, number_at, Accepted, grown}
-use Rattle.book.specs.Rows.{unit_point, Pool, pool_a, pool_b, added_to, answer_at, says, said_at, number_in}
+use Rattle.book.specs.Rows.{values_of, unit_point, Pool, pool_a, pool_b, added_to, answer_at, says, said_at, number_in}
 use Rattle.book.specs.Sums.{kw_seconds, actuals_of, open_of, sums_of, no_sums}
 
 -- an owner byte and bytes as a book second
@@ -183,6 +185,11 @@ pub record PowersInRange (x : Record) : Type 0 where
 pub record Readable (s : List ℕ) : Type 0 where
   pub whole : length s ≡ size
   pub range : PowersInRange (record_of s)
+
+-- what sharing adds for a pool that sells the kinds b at the unit, where u are the unit's bytes and r is its row
+pub record AddedFor (b : KindBits) (u : List ℕ) (r : Row) (g : Added) : Type 0 where
+  pub measured : g.measured.0 ≡ (record_of u).working_point.0 +ℤ values_of b r
+  pub point : g.point.0 ≡ (record_of u).working_point.0
 
 -- the plants' bytes, where s is the book second
 pub record PartsOf (s u a b : List ℕ) : Type 0 where

@@ -19,13 +19,11 @@ ghost use Rattle.book.specs.State.{second_of, fresh, Ready, PlantsStepped, Stepp
 
 pub use list::run;
 use plant::PlantState;
-use power::Kw;
-use record::KindBits;
 use refusals::Refusal;
 use row::{KwSeconds, Row, Sums};
 use sheet::Sheet;
 use sums::{due_in, with_second};
-use unit::{added_to, others};
+use unit::added;
 
 // The plants of a book.
 #[derive(Clone, Copy, Debug, PartialEq, Eq)]
@@ -186,24 +184,16 @@ impl Book {
         ensures { PlantsStepped self.old owner unit.now a.now b.now (record { answer = book_told result; book = self.new }) }
     {
         let mut next = *self;
-        let unit_answer = next.unit.second_with(self.sheet, unit, Kw(0), Kw(0));
+        let unit_answer = next.unit.second(self.sheet, unit);
         let Ok(unit_row) = unit_answer else {
             return Err(Plant::U.refuses(unit_answer.unwrap_err()));
         };
-        let point = record::fields_of(unit).working_point;
-        let sold = KindBits::from(owner);
-        let a_answer = next.a.second_with(
-            self.sheet,
-            a,
-            added_to(point, others(sold), unit_row),
-            point,
-        );
+        let (a_added, b_added) = added(owner, unit, unit_row);
+        let a_answer = next.a.second_with(self.sheet, a, a_added);
         let Ok(a_row) = a_answer else {
             return Err(Plant::A.refuses(a_answer.unwrap_err()));
         };
-        let b_answer = next
-            .b
-            .second_with(self.sheet, b, added_to(point, sold, unit_row), point);
+        let b_answer = next.b.second_with(self.sheet, b, b_added);
         let Ok(b_row) = b_answer else {
             return Err(Plant::B.refuses(b_answer.unwrap_err()));
         };

@@ -1,19 +1,19 @@
 // Who sells what at the unit, and the values there.
-ghost use Rattle.std.specs.Prelude.{◌≡◌, ◌+ℤ◌};
+ghost use Rattle.std.specs.Prelude.{◌≡◌, ◌+ℤ◌, length};
 ghost use Rattle.numbers.specs.Bounds.{Within};
 ghost use Rattle.plant.specs.Refusals.{most_power};
-ghost use Rattle.plant.specs.State.{most_added};
-ghost use Rattle.book.specs.Rows.{value_if, values_of, others};
 ghost use Rattle.sharing.specs.Sizes.{SizedRow};
-ghost use Rattle.book.specs.State.{most_at_unit};
+ghost use Rattle.book.specs.Rows.{value_if, values_of, others, sold_by_a, sold_by_b};
+ghost use Rattle.book.specs.State.{most_at_unit, Readable, AddedFor};
 
 use crate::sums::sum_of;
+use plant::Added;
 use power::Kw;
 use record::KindBits;
 use row::{KindRow, Row};
 
 // The kinds whose bits are not set.
-pub(crate) fn others(b: KindBits) -> KindBits
+fn others(b: KindBits) -> KindBits
     ensures { result ≡ others b }
 {
     KindBits {
@@ -42,11 +42,28 @@ fn values_of(b: KindBits, r: Row) -> Kw
     )
 }
 
-// What a pool's measured has added, where the bits are those of its kinds: the unit's working point, and its own values at the unit.
+// What sharing adds for a pool, where the bits are those of its kinds: to its working point the unit's, and to its measured that and its own values
+// at the unit.
 #[tactic(auto, using(crate::proofs::Sizes::added_small, crate::proofs::Sizes::added_fits))]
-pub(crate) fn added_to(point: Kw, b: KindBits, r: Row) -> Kw
+fn added_for(b: KindBits, point: Kw, r: Row) -> Added
     requires { Within most_power point.0 × SizedRow most_at_unit r }
-    ensures { (result.0 ≡ point.0 +ℤ values_of b r) × Within most_added result.0 }
+    ensures { (result.measured.0 ≡ point.0 +ℤ values_of b r) × (result.point ≡ point) }
 {
-    point.plus(values_of(b, r))
+    Added {
+        measured: point.plus(values_of(b, r)),
+        point,
+    }
+}
+
+// What sharing adds for A and for B, by the owner byte, the unit's bytes and its row.
+pub(crate) fn added(owner: u8, unit: &[u8], r: Row) -> (Added, Added)
+    requires { Readable unit.now × SizedRow most_at_unit r }
+    ensures { AddedFor (sold_by_a owner) unit.now r result.0 × AddedFor (sold_by_b owner) unit.now r result.1 }
+{
+    let point = record::fields_of(unit).working_point;
+    let sold = KindBits::from(owner);
+    (
+        added_for(others(sold), point, r),
+        added_for(sold, point, r),
+    )
 }
