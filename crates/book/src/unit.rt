@@ -62,8 +62,5 @@ pub(crate) fn added(owner: u8, unit: &[u8], r: Row) -> (Added, Added)
 {
     let point = record::fields_of(unit).working_point;
     let sold = KindBits::from(owner);
-    (
-        added_for(others(sold), point, r),
-        added_for(sold, point, r),
-    )
+    (added_for(others(sold), point, r), added_for(sold, point, r))
 }

@@ -4,7 +4,6 @@ use Rattle.refusals.specs.Refusals.{answer_number}
 use Rattle.sheet.specs.declared.Sheet.{Sheet}
 use Rattle.row.specs.declared.sums.Sums.{Sums}
 use Rattle.plant.specs.declared.PlantState.{PlantState}
-use Rattle.plant.specs.Rows as plant-rows
 use Rattle.plant.specs.State as plant
 use Rattle.book.specs.Rows as book-rows
 use Rattle.book.specs.State as book
@@ -17,7 +16,7 @@ use Rattle.line.specs.Lined.{answer_of}
 
 -- the plant second of bytes s
 abbrev pub plant_number : Sheet → PlantState → List ℕ → ℕ
-plant_number sh st s = plant-rows.number_in (plant.step_in sh st s (pos 0) (pos 0)).answer
+plant_number sh st s = answer_number (plant.step_in sh st s (pos 0) (pos 0)).answer
 
 -- the book second of bytes s at a fresh book
 abbrev pub book_number : Sheet → ℕ → List ℕ → ℕ

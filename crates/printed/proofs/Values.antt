@@ -17,7 +17,7 @@ use Rattle.mfrr.specs.State.{second_of}
 use Rattle.sharing.specs.Shares.{parts}
 use Rattle.sharing.specs.Rows.{kind_rows, open_of, row_of}
 use Rattle.plant.specs.Refusals as plant-refusals
-use Rattle.plant.specs.Rows.{kinds_with, kinds_at, row_at}
+use Rattle.plant.specs.Rows.{kind_if, kinds_with, kinds_at, row_at}
 use Rattle.book.specs.Seconds.{due_of}
 use Rattle.book.specs.Refusals as book-refusals
 use Rattle.book.specs.Rows.{values_of, unit_row_at, pool_row_at}
@@ -34,5 +34,5 @@ use Rattle.printed.specs.Printed.{judged, end_text, printed}
 use Rattle.printed.specs.Values.{Values}
 
 values : Values
-unfolding outside max_z min_z twos_complement upper_kw lower_kw newest record_of bits_of fault_in setpoint_of default_sheet per_kw fcr-band.weight fcr-band.fallen fcr-band.risen fcr-band.fall_of fcr-band.rise_of fcr-band.sum_to fcr-band.limits_at largest smallest gradient_by held_of next_upper next_lower limits_by last_limits signal phase_now setpoint_at value_at value_of phase_at mfrr_band_is.spanned mfrr_band_is.limits_at refusal rules_at second_of parts kind_rows open_of row_of plant-refusals.held_out plant-refusals.deviation_out plant-refusals.power_out plant-refusals.setpoint_out plant-refusals.call_filled plant-refusals.call_out plant-refusals.kind_moved plant-refusals.any_moved plant-refusals.status_moved plant-refusals.off_number plant-refusals.record_number_at plant-refusals.number_at plant-refusals.off_moves kinds_with kinds_at row_at due_of book-refusals.form_number book-refusals.number_at values_of unit_row_at pool_row_at sums_of all_zero weights check_of header_number block_number seconds_from later_blocks joined later_bytes book_bytes header_front block_front digits_in digits decimal field named plant_text second_text sum_text refusal_text judged end_text printed
+unfolding outside max_z min_z twos_complement upper_kw lower_kw newest record_of bits_of fault_in setpoint_of default_sheet per_kw fcr-band.weight fcr-band.fallen fcr-band.risen fcr-band.fall_of fcr-band.rise_of fcr-band.sum_to fcr-band.limits_at largest smallest gradient_by held_of next_upper next_lower limits_by last_limits signal phase_now setpoint_at value_at value_of phase_at mfrr_band_is.spanned mfrr_band_is.limits_at refusal rules_at second_of parts kind_rows open_of row_of plant-refusals.held_out plant-refusals.deviation_out plant-refusals.power_out plant-refusals.setpoint_out plant-refusals.call_filled plant-refusals.call_out plant-refusals.kind_moved plant-refusals.any_moved plant-refusals.status_moved plant-refusals.off_number plant-refusals.record_number_at plant-refusals.number_at plant-refusals.off_moves kind_if kinds_with kinds_at row_at due_of book-refusals.form_number book-refusals.number_at values_of unit_row_at pool_row_at sums_of all_zero weights check_of header_number block_number seconds_from later_blocks joined later_bytes book_bytes header_front block_front digits_in digits decimal field named plant_text second_text sum_text refusal_text judged end_text printed
 values = record { full_case = refl; nothing = refl; refused_second = refl }
