@@ -81,7 +81,7 @@ past_append part (s ∷ late) early = ap (λ (h : plant.History). record_of (par
 
 record_back : (part : List ℕ → List ℕ) → Moves part → (n : ℕ) (s : BookSecond) → form_number s ≡ 0 → record_of (part (earlier n s).bytes) ≡ plant.moved_back n (record_of (part s.bytes))
 record_back part m n s e =
-    let l = whole s.owner s.bytes e in
+    let l = whole s.owner s.bytes (sym e) in
     ap record_of (m.back n s.bytes l) ∙ record_moved n (part s.bytes) (m.long s.bytes l)
 
 module _ (sh : Sheet) (in_range : InRange sh) (part : List ℕ → List ℕ) (m : Moves part) (early : History) where
@@ -120,7 +120,7 @@ module _ (sh : Sheet) (in_range : InRange sh) (part : List ℕ → List ℕ) (m 
     pub number_cut : plant-refusals.number_at (closed_of part (early ∷ [])) (past_of part (cut_off early late)) (part (earlier n s).bytes) ≡ 0
     unfolding plant-refusals.number_at plant-refusals.record_number_at
     number_cut =
-        let l = whole s.owner s.bytes form in
+        let l = whole s.owner s.bytes (sym form) in
         let long : length (part (earlier n s).bytes) ≡ size = ap length (m.back n s.bytes l) ∙ length_moved n (part s.bytes) (m.long s.bytes l) in
         rw (eq-eqb _ _ long)
         ((λ i. plant-refusals.record_number_at (closed ∷ []) (past_back late acc i) (x_back i)) ∙ is_cut.number)
@@ -146,7 +146,7 @@ module _ (sh : Sheet) (in_range : InRange sh) (early : History) (whole-hours : l
   form_back : form_number (earlier first_length s) ≡ 0
   unfolding form_number
   form_back =
-      let l = whole s.owner s.bytes c.form in
+      let l = whole s.owner s.bytes (sym c.form) in
       rw (eq-eqb _ _ (back_long first_length s.bytes l)) (rw (eq-eqb _ _ l) at c.form)
 
   pub second_number : number_at (early ∷ []) (cut_off early late) (earlier first_length s) ≡ 0

@@ -1,5 +1,6 @@
 -- A book second's form: 12 and 16, and the bytes of the three plants. Assumes nothing.
-use Rattle.std.proofs.Common.{◌≡◌, refl, sym, ap, ◌∙◌, subst, List, ℕ, ◌*◌, arith, length, take, drop, length-take, length-drop, take_all, drop-drop}
+use Rattle.std.specs.Simd.{first_chunks}
+use Rattle.std.proofs.Common.{length-take, length-drop, ◌/◌, slice_index_or, [], ◌≡◌, refl, ap, subst, List, ℕ, arith, length, take, length-take, length-drop, drop-drop}
 use Rattle.std.proofs.lemmas.Bool.Decides.{nat_tests}
 use Rattle.refusals.specs.declared.Refusal.{Refusal}
 use Rattle.refusals.specs.Refusals.{number_of}
@@ -14,7 +15,7 @@ use Rattle.book.specs.Refusals.{form_number, Accepted}
 use Rattle.book.specs.State.{second_of, state_of, OverPast, step_by, step_in, PartsOf, PlantsStepped, Ready, Stepped}
 use Rattle.book.proofs.Past.{over_past}
 
-pub whole : (o : ℕ) (s : List ℕ) → form_number (second_of o s) ≡ 0 → length s ≡ book_size
+pub whole : (o : ℕ) (s : List ℕ) → 0 ≡ form_number (second_of o s) → length s ≡ book_size
 unfolding form_number
 whole o s e = grind (arith, nat_tests)
 
@@ -28,14 +29,12 @@ module _ (s : List ℕ) (l : length s ≡ book_size) where
   pub b_length : length (b_bytes s) ≡ size
   b_length = simp (length-take, length-drop) (omega arith)
 
-  -- split off one by one: the last plant's bytes go to the end
-  pub parts_of : {u p a b : List ℕ} → u ≡ take size s → p ≡ drop size s → a ≡ take size p → b ≡ drop size p → PartsOf s u a b
-  parts_of u p a b =
-      record {
-        unit_part = u;
-        a_part = a ∙ ap (take size) p;
-        b_part = b ∙ ap (drop size) p ∙ drop-drop size size s ∙ sym (take_all size (drop (2 * size) s) (simp length-drop (omega arith)));
-      }
+-- the chunks of a book second are its plants' bytes
+pub parts_of : {s : List ℕ} {ps : List (List ℕ)} → length s ≡ book_size → ps ≡ first_chunks size (length s / size) s
+    → PartsOf s (slice_index_or ps 0 []) (slice_index_or ps 1 []) (slice_index_or ps 2 [])
+parts_of {s} l e =
+    let n : length s / size ≡ 3 = omega (arith, l) in
+    rw (e, n) (record { unit_part = refl; a_part = refl; b_part = ap (take size) (drop-drop size size s) })
 
 module _ (k : Book) (o : ℕ) (s : List ℕ) where
   by_refusal : {n : ℕ} (given : BookStep) → Positive n → record { answer = Refused n; book = k } ≡ step_by n k given

@@ -1,11 +1,11 @@
 -- The book second plant by plant. Assumes nothing.
-use Rattle.std.proofs.Common.{length, subst₂, ◌≡◌, refl, sym, ap, ◌∙◌, List, ℕ, ◌+◌, ◌≤◌, arith, ℤ, pos, ◌+ℤ◌}
+use Rattle.std.proofs.Common.{subst₂, ◌≡◌, refl, sym, ap, ◌∙◌, List, ℕ, ◌+◌, ◌≤◌, arith, ℤ, pos, ◌+ℤ◌}
 use Rattle.numbers.specs.Bounds.{Within}
 use Rattle.numbers.proofs.Fit.{fit, within_lit}
 use Rattle.refusals.specs.Refusals as plant-answer
 use Rattle.sheet.specs.declared.Sheet.{Sheet}
 use Rattle.record.specs.declared.KindBits.{KindBits}
-use Rattle.record.specs.Record.{size, most_seconds, record_of}
+use Rattle.record.specs.Record.{most_seconds, record_of}
 use Rattle.row.specs.declared.Row.{Row}
 use Rattle.row.specs.declared.sums.Sums.{Sums}
 use Rattle.sharing.specs.Sizes.{SizedRow}
@@ -20,7 +20,7 @@ use Rattle.book.specs.declared.Plant.TheVariants.{U, A, B}
 use Rattle.book.specs.Answers.{BookStep, Rows}
 use Rattle.book.specs.Seconds.{due_from, due_of}
 use Rattle.book.specs.Rows.{values_of, unit_point, Pool, pool_a, pool_b}
-use Rattle.book.specs.State.{second_of, unit_in, pool_in, sums_with, refused_by, plants_in, most_at_unit, most_at_pool, Ready, SumsReady, PowersInRange, Readable, AddedFor, Summed, PartsOf, PlantsStepped}
+use Rattle.book.specs.State.{second_of, unit_in, pool_in, sums_with, refused_by, plants_in, most_at_unit, most_at_pool, Ready, SumsReady, PowersInRange, AddedFor, Summed, PartsOf, PlantsStepped}
 use Rattle.book.proofs.Sizes.{added_small, shared_within, difference_small, sums_longer, sums_more}
 
 -- ---- a plant's second
@@ -34,7 +34,7 @@ abbrev Refuses : Sheet → PlantState → List ℕ → ℤ → ℤ → ℕ → P
 Refuses sh st s m w n q = plant.Stepped sh st s m w (record { answer = plant-answer.Refused n; state = q })
 
 module _ {sh : Sheet} {st : PlantState} {s : List ℕ} {m w : ℤ} {r : Row} {q : PlantState} (g : Gives sh st s m w r q) where
-  range : PowersInRange (record_of s)
+  pub range : PowersInRange (record_of s)
   range = let f = g.facts.given refl in record { measured = f.measured; working_point_is = f.working_point_is }
 
   sized : (M W D : ℕ) → most_power + M + (most_power + W) ≤ D → Within M m → Within W w → SizedRow D r
@@ -52,9 +52,6 @@ point u = (record_of u).working_point.0
 module _ {sh : Sheet} {st : PlantState} {u : List ℕ} {r : Row} {q : PlantState} (g : Gives sh st u (pos 0) (pos 0) r q) where
   pub point_small : Within most_power (point u)
   point_small = (range g).working_point_is
-
-  pub readable : length u ≡ size → Readable u
-  readable l = record { whole = l; range = range g }
 
   pub unit_sized : SizedRow most_at_unit r
   unit_sized = sized g 0 0 most_at_unit (omega arith) (within_lit 0 (pos 0) tt) (within_lit 0 (pos 0) tt)

@@ -1,11 +1,11 @@
 -- What a book holds after a past, and a book second from any book: the rules of specs/Refusals.antt and the rows of specs/Rows.antt, on what
 -- the book holds.
-use Rattle.std.specs.Prelude.{ℕ, zero, suc, ◌+◌, ◌*◌, ◌≡◌, List, [], ℤ, pos, ◌+ℤ◌, length}
+use Rattle.std.specs.Prelude.{ℕ, zero, suc, ◌+◌, ◌*◌, ◌≡◌, List, [], ℤ, pos, ◌+ℤ◌}
 use Rattle.numbers.specs.Bounds.{Within}
 use Rattle.sheet.specs.declared.Sheet.{Sheet}
 use Rattle.refusals.specs.Refusals as plant-answer
 use Rattle.refusals.specs.Refusals.{Answer}
-use Rattle.record.specs.Record.{size, record_of}
+use Rattle.record.specs.Record.{record_of}
 use Rattle.record.specs.declared.KindBits.{KindBits}
 use Rattle.record.specs.declared.Record.{Record}
 use Rattle.row.specs.declared.Row.{Row}
@@ -180,11 +180,6 @@ pub record Summed (u a b : Row) (d : ℤ) : Type 0 where
 pub record PowersInRange (x : Record) : Type 0 where
   pub measured : Within most_power x.measured.0
   pub working_point_is : Within most_power x.working_point.0
-
--- a plant's 36 bytes in an accepted second
-pub record Readable (s : List ℕ) : Type 0 where
-  pub whole : length s ≡ size
-  pub range : PowersInRange (record_of s)
 
 -- what sharing adds for a pool that sells the kinds b at the unit, where u are the unit's bytes and r is its row
 pub record AddedFor (b : KindBits) (u : List ℕ) (r : Row) (g : Added) : Type 0 where

@@ -161,14 +161,14 @@ impl Book {
     }
 
     // A book second of any owner byte and any bytes. One that is turned down leaves the book as it was.
+    #[tactic(auto, using(crate::proofs::Form::whole))]
     pub fn second(&mut self, owner: u8, bytes: &[u8]) -> Result<BookRows, BookRefusal>
         requires { Ready self.old }
         ensures { Stepped self.old (second_of owner bytes.now) (record { answer = book_told result; book = self.new }) }
     {
         check_form(owner, bytes)?;
-        let (unit, pools) = bytes.split_at(record::SIZE);
-        let (a, b) = pools.split_at(record::SIZE);
-        self.plants(owner, unit, a, b)
+        let (parts, _) = bytes.as_chunks::<{ record::SIZE }>();
+        self.plants(owner, &parts[0], &parts[1], &parts[2])
     }
 
     // The unit first, then A, then B, by `let .. else` on each plant's answer (01, "What form each place needs"): the first refusal leaves the old
@@ -176,11 +176,11 @@ impl Book {
     fn plants(
         &mut self,
         owner: u8,
-        unit: &[u8],
-        a: &[u8],
-        b: &[u8],
+        unit: &[u8; record::SIZE],
+        a: &[u8; record::SIZE],
+        b: &[u8; record::SIZE],
     ) -> Result<BookRows, BookRefusal>
-        requires { Ready self.old × (length unit.now ≡ size) × (length a.now ≡ size) × (length b.now ≡ size) }
+        requires { Ready self.old }
         ensures { PlantsStepped self.old owner unit.now a.now b.now (record { answer = book_told result; book = self.new }) }
     {
         let mut next = *self;

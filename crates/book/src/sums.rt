@@ -1,15 +1,15 @@
 // The four sums of a book: A's and B's actual values, open, and due.
 ghost use Rattle.std.specs.Prelude.{◌≡◌, ◌+ℤ◌};
 ghost use Rattle.numbers.specs.Bounds.{Within};
-ghost use Rattle.record.specs.Record.{most_seconds};
+ghost use Rattle.record.specs.Record.{most_seconds, record_of};
 ghost use Rattle.sharing.specs.Sizes.{SizedRow};
 ghost use Rattle.book.specs.Seconds.{difference, due_from};
 ghost use Rattle.book.specs.Sums.{actuals_of, open_of};
-ghost use Rattle.book.specs.State.{most_summand, most_at_unit, most_at_pool, sums_with, PowersInRange, Readable, SumsReady, Summed};
+ghost use Rattle.book.specs.State.{most_summand, most_at_unit, most_at_pool, sums_with, PowersInRange, SumsReady, Summed};
 
 use crate::BookRows;
 use power::Kw;
-use record::Record;
+use record::{Record, SIZE};
 use row::{Row, Sums};
 
 // The sum of three powers of a second.
@@ -45,8 +45,8 @@ fn difference(x: Record) -> Kw
 }
 
 // What is due in a second, read from its bytes: U, A and B, each once.
-pub(crate) fn due_in(u: &[u8], a: &[u8], b: &[u8]) -> Kw
-    requires { Readable u.now × Readable a.now × Readable b.now }
+pub(crate) fn due_in(u: &[u8; SIZE], a: &[u8; SIZE], b: &[u8; SIZE]) -> Kw
+    requires { PowersInRange (record_of u.now) × PowersInRange (record_of a.now) × PowersInRange (record_of b.now) }
     ensures { result.0 ≡ due_from u.now a.now b.now }
 {
     sum_of(

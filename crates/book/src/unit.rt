@@ -1,10 +1,11 @@
 // Who sells what at the unit, and the values there.
-ghost use Rattle.std.specs.Prelude.{◌≡◌, ◌+ℤ◌, length};
+ghost use Rattle.std.specs.Prelude.{◌≡◌, ◌+ℤ◌};
 ghost use Rattle.numbers.specs.Bounds.{Within};
+ghost use Rattle.record.specs.Record.{record_of};
 ghost use Rattle.plant.specs.Refusals.{most_power};
 ghost use Rattle.sharing.specs.Sizes.{SizedRow};
 ghost use Rattle.book.specs.Rows.{value_if, values_of, others, sold_by_a, sold_by_b};
-ghost use Rattle.book.specs.State.{most_at_unit, Readable, AddedFor};
+ghost use Rattle.book.specs.State.{most_at_unit, PowersInRange, AddedFor};
 
 use crate::sums::sum_of;
 use plant::Added;
@@ -56,8 +57,8 @@ fn added_for(b: KindBits, point: Kw, r: Row) -> Added
 }
 
 // What sharing adds for A and for B, by the owner byte, the unit's bytes and its row.
-pub(crate) fn added(owner: u8, unit: &[u8], r: Row) -> (Added, Added)
-    requires { Readable unit.now × SizedRow most_at_unit r }
+pub(crate) fn added(owner: u8, unit: &[u8; record::SIZE], r: Row) -> (Added, Added)
+    requires { PowersInRange (record_of unit.now) × SizedRow most_at_unit r }
     ensures { AddedFor (sold_by_a owner) unit.now r result.0 × AddedFor (sold_by_b owner) unit.now r result.1 }
 {
     let point = record::fields_of(unit).working_point;
