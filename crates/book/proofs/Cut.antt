@@ -1,7 +1,7 @@
 -- A list of accepted seconds cut once: each plant's own seconds are cut likewise, so each row is the one of the one book. Assumes nothing.
 use Rattle.std.proofs.Common.{◌≡◌, refl, sym, ap, ◌∙◌, subst, List, [], ◌∷◌, ◌++◌, map, append_assoc, ℕ, ◌%◌, ◌*◌, arith, eq-eqb, ℤ, pos, ◌+ℤ◌, length, take, drop, length-append, take_at, drop_at, take_all}
-use lib.IntN.{+ℤ_assoc, +ℤ_idr}
-use lib.ListN.{length-map}
+use Rattle.std.proofs.Math.IntN.{+ℤ_assoc, +ℤ_idr}
+use Rattle.std.proofs.lemmas.List.{length-map}
 use Rattle.sheet.specs.declared.Sheet.{Sheet}
 use Rattle.sheet.specs.Sheet.{InRange}
 use Rattle.record.specs.declared.Record.{Record}

@@ -1,6 +1,6 @@
 -- A handover, by the length of the closing book. Assumes nothing.
 use Rattle.std.proofs.Common.{◌≡◌, refl, sym, ap, ◌∙◌, Bool, true, false, not, [], ◌∷◌, ℕ, ◌%◌, eq-eqb, ne_eqb, eqb, length}
-use lib.ListN.{length-map}
+use Rattle.std.proofs.lemmas.List.{length-map}
 use Rattle.sheet.specs.declared.Sheet.{Sheet}
 use Rattle.mfrr.specs.Signal.{quarter_hour}
 use Rattle.plant.specs.declared.PlantState.{PlantState}

@@ -1,6 +1,6 @@
 -- A book second at the book that accepted seconds leave is the second over those seconds. Assumes nothing.
 use Rattle.std.proofs.Common.{◌≡◌, refl, ap, ◌∙◌, List, [], ◌∷◌, ℕ, zero, suc, ℤ, pos}
-use lib.ListN.{length-map}
+use Rattle.std.proofs.lemmas.List.{length-map}
 use Rattle.numbers.specs.Rules.{or_else}
 use Rattle.numbers.proofs.Rules.{neither}
 use Rattle.refusals.specs.Refusals as plant-answer

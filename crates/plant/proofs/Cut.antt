@@ -1,7 +1,7 @@
 -- A list of accepted seconds cut once gives the second book the same timeline. Assumes nothing.
 use Rattle.std.proofs.Common.{◌≡◌, refl, sym, ap, ◌∙◌, Bool, true, false, cond, ◌&&◌, ◌||◌, [], ◌∷◌, ◌++◌, map, ℕ, zero, suc, ◌+◌, ◌-◌, ◌%◌, ◌≤◌, arith, leb-false, ne_eqb, eqb, ltb, length, length-append}
 use borrow.Author.Tests.{lt-leb}
-use lib.ListN.{length-map}
+use Rattle.std.proofs.lemmas.List.{length-map}
 use Rattle.numbers.specs.Rules.{differ}
 use Rattle.numbers.proofs.Rules.{none, neither}
 use Rattle.power.specs.Units.{kw}

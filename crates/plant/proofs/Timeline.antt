@@ -1,6 +1,6 @@
 -- The closed books' seconds and a book's own on one timeline. Assumes nothing.
 use Rattle.std.proofs.Common.{◌≡◌, refl, ap, ◌∙◌, Bool, true, false, cond, [], ◌∷◌, map, Option, Some, None, ℕ, ◌+◌, ◌%◌, arith, eqb, length, length-append}
-use lib.ListN.{length-map}
+use Rattle.std.proofs.lemmas.List.{length-map}
 use Rattle.record.specs.declared.Record.{Record}
 use Rattle.mfrr.specs.declared.Call.{Call}
 use Rattle.mfrr.specs.Signal as mfrr

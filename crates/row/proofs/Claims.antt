@@ -1,6 +1,7 @@
 -- The claims of specs/Claims.antt. Assumes nothing.
 use Rattle.std.proofs.Common.{◌≡◌, refl, sym, subst, Bool, true, false, not, cond, ◌↔◌, ℕ, arith, T}
-use lib.Signed.{lt_z, lt_z_yes, lt_z_no, clash_ℤ}
+use Rattle.std.specs.Int.Signed.{lt_z}
+use lib.Signed.{lt_z_yes, lt_z_no, clash_ℤ}
 use Rattle.row.specs.declared.KindRow.{KindRow}
 use Rattle.row.specs.declared.side.BandSide.TheVariants.{Within, Below, Above}
 use Rattle.row.specs.Row.{InBand}

@@ -1,6 +1,7 @@
 -- What the larger of two 32-bit numbers has more fits an unsigned one. Assumes nothing.
 use Rattle.std.proofs.Common.{◌≡◌, sym, subst, true, ◌^◌, ◌<◌, arith, T, ℤ, pos, negsuc, nat_abs, ◌-ℤ◌, ◌<ℤ◌, w32, w64, SFits, Fits}
-use lib.Signed.{lt_z, non_neg}
+use Rattle.std.specs.Int.Signed.{lt_z}
+use lib.Signed.{non_neg}
 use Rattle.numbers.proofs.Parts.{up, dn, lt_nat, sub_nat, one_nat, abs_nat, fits_nat, fits_order}
 
 up_small : (z : ℤ) → SFits w32 z → up z < 2 ^ 31

@@ -1,7 +1,7 @@
 -- What the shares are made of, for any number of kinds. Assumes nothing.
 use Rattle.std.proofs.Common.{ℕ, suc, ◌+◌, ◌*◌, ◌<◌, ◌≡◌, refl, ap, sym, ◌∙◌, ⊎_elim, false, true≢false, Some, None, IfNone, List, [], ◌∷◌, map, arith, div-add-mod', mod-lt, mul-zero, ltb, length, get_or, eq-eqb, ne_eqb}
-use native.Mathlib.Nat.{zero-mod}
-use lib.ListN.{length-map}
+use Rattle.std.proofs.Math.Nat.{zero-mod}
+use Rattle.std.proofs.lemmas.List.{length-map}
 use Rattle.sharing.specs.declared.shares.Part.{Part}
 use Rattle.sharing.specs.Shares.{Weighed, one, sum_of, some_on, weighed_on, tolerance_of, tolerances, total, floor_of, floors, remainder_of, remainders, missing, plus, none, extras_by, to_first, shares, parts_with, parts_by, unrounded, parts, whole_of, wholes, floors_in, remainders_in, extras_in}
 use Rattle.sharing.specs.Claims.{before, OffNone, AllDivided, OffUnrounded, Parted}
