@@ -1,6 +1,6 @@
 -- One accepted second: A's and B's values and what is open make up what is due. Assumes nothing.
 use Rattle.std.proofs.Common.{◌≡◌, Bool, true, false, not, arith, ℤ, pos, ◌+ℤ◌}
-use lib.IntN.{+ℤ_idl, +ℤ_idr}
+use Rattle.std.proofs.Math.IntN.{+ℤ_idl, +ℤ_idr}
 use Rattle.std.proofs.lemmas.Int.{ints}
 use Rattle.sheet.specs.declared.Sheet.{Sheet}
 use Rattle.sheet.specs.Sheet.{InRange}

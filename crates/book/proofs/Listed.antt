@@ -1,6 +1,6 @@
 -- A list of book seconds in one slice, taken from the front. Assumes nothing.
 use Rattle.std.proofs.Common.{ℕ, zero, suc, ◌-◌, ◌≤◌, ◌<◌, ◌≡◌, refl, sym, ap, ◌∙◌, subst, List, [], ◌∷◌, ◌++◌, arith, length, get_or, take, drop, length-drop, drop_of_length-le, take_all}
-use lib.Seq.{take-append_seam, drop-append_seam}
+use Rattle.std.proofs.Math.Seq.{take-append_seam, drop-append_seam}
 use Rattle.sheet.specs.Sheet.{InRange}
 use Rattle.book.specs.Answers.{BookStep}
 use Rattle.book.specs.Seconds.{BookSecond}

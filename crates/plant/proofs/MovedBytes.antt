@@ -1,6 +1,6 @@
 -- The record of a plant second's bytes with the delivery end moved back. Assumes nothing.
 use Rattle.std.proofs.Common.{◌≡◌, refl, sym, ap, ◌∙◌, Bool, true, false, cond, List, ◌++◌, ℕ, ◌+◌, ◌-◌, ◌*◌, ◌<◌, ◌≤◌, arith, eqb, length, get_or, take, drop, length-append, length-take, length-drop, get_or-append-add, get_or-take, get_or-drop, length-take-le}
-use lib.ListN.{get_or-append}
+use Rattle.std.proofs.Math.ListN.{get_or-append}
 use Rattle.codec.specs.Little.{u16_at, u32_at, le4, twos_complement}
 use Rattle.codec.specs.Put.{over}
 use Rattle.codec.proofs.Little.{le4_value}
