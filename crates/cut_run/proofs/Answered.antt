@@ -5,16 +5,16 @@ use Rattle.refusals.specs.Refusals.{number_of}
 use Rattle.codec.specs.declared.lent.Lent.{Lent}
 use Rattle.codec.proofs.Lents.{loosen, none}
 use Rattle.block.specs.Said.{refused, answered}
-use Rattle.block.specs.Block.{block_number, block_of, count_of, all_seconds, seconds_from}
+use Rattle.block.specs.Block.{block_number, block_of, count_of, seconds_from}
 use Rattle.report.specs.Running.{Refused, refused_at}
 use Rattle.cut.specs.Running.{cut_seconds_in, block_by, cut_block_in}
 use Rattle.cut_run.specs.declared.Cut.{Cut}
 use Rattle.cut_run.specs.Adding.{cut_block_room, CutAdds}
 
 module _ (c : Cut) (n : ℕ) (s : List ℕ) where
-  pub in_turn : (body : List ℕ) → block_number s c.plan.seconds n ≡ 0 → all_seconds body ≡ seconds_from s 0 (count_of s) → cut_block_in c.plan c.at n c.kept c.handed s ≡ cut_seconds_in c.plan c.at c.kept c.handed (all_seconds body)
+  pub in_turn : (ss : List (List ℕ)) → block_number s c.plan.seconds n ≡ 0 → ss ≡ seconds_from s 0 (count_of s) → cut_block_in c.plan c.at n c.kept c.handed s ≡ cut_seconds_in c.plan c.at c.kept c.handed ss
   unfolding cut_block_in
-  in_turn body is all = rw (is, all)
+  in_turn ss is all = rw (is, all) refl
 
   number_is : (q m : ℕ) → refused m ≡ answered q (count_of s ∷ []) → block_by q c.plan c.at c.kept c.handed s ≡ record { ran = refused_at c.kept m; handed = c.handed }
   number_is zero m e = cc

@@ -2,11 +2,9 @@
 // in the next book, with the delivery ends of their calls in its seconds.
 #![tactic(auto)]
 
-ghost use Rattle.std.specs.Prelude.{◌≡◌, ◌≤◌, ◌*◌, false, length};
+ghost use Rattle.std.specs.Prelude.{◌≡◌, ◌≤◌, false, length};
 ghost use Rattle.codec.specs.Lent.{HasRoom};
-ghost use Rattle.record.specs.Record.{book_size};
-ghost use Rattle.block.specs.Places.{per_block, second_size};
-ghost use Rattle.block.specs.Block.{all_seconds};
+ghost use Rattle.block.specs.Places.{per_block};
 ghost use Rattle.line.specs.Widths.{row_room};
 ghost use Rattle.report.specs.Text.{second_room};
 ghost use Rattle.report.specs.Running.{verdict_told};
@@ -15,7 +13,7 @@ ghost use Rattle.cut.specs.Running.{handed_in, before_in, judged_in, cut_second_
 ghost use Rattle.cut_run.specs.Adding.{cut_room, cut_block_room, CutAdds};
 
 use codec::Lent;
-use record::{BOOK_SIZE, SIZE};
+use record::BOOK_SIZE;
 use refusals::Refusal;
 use report::{Kept, Plan, TextLine};
 use tally::Tally;
@@ -31,12 +29,10 @@ pub struct Cut {
 }
 
 // A book second with the delivery ends of U's, A's and B's calls moved back.
-fn moved_back(bytes: &[u8], seconds: u32) -> [u8; BOOK_SIZE]
-    requires { length bytes.now ≡ book_size }
+fn moved_back(bytes: &[u8; BOOK_SIZE], seconds: u32) -> [u8; BOOK_SIZE]
     ensures { result ≡ bytes_back seconds bytes.now }
 {
-    let mut moved = [0; BOOK_SIZE];
-    moved.copy_from_slice(bytes);
+    let mut moved = *bytes;
     let (unit, pools) = moved.split_first_chunk_mut().unwrap();
     let (a, b) = pools.split_first_chunk_mut().unwrap();
     record::move_back(unit, seconds);
@@ -70,8 +66,8 @@ impl Cut {
     }
 
     // The second itself, in the book that is open: in the next one with its calls' ends moved back.
-    fn judge(&mut self, bytes: &[u8], text: &mut Lent) -> Result<(), Refusal>
-        requires { (length bytes.now ≡ book_size) × HasRoom second_room text.old }
+    fn judge(&mut self, bytes: &[u8; BOOK_SIZE], text: &mut Lent) -> Result<(), Refusal>
+        requires { HasRoom second_room text.old }
         ensures { CutAdds second_room text.old text.new self.old self.new (verdict_told result) (judged_in self.old.plan self.old.at self.old.kept self.old.handed bytes.now) }
     {
         if self.handed {
@@ -83,8 +79,8 @@ impl Cut {
     }
 
     // One second, with what comes before it.
-    fn second(&mut self, bytes: &[u8], text: &mut Lent) -> Result<(), Refusal>
-        requires { (length bytes.now ≡ book_size) × HasRoom cut_room text.old }
+    fn second(&mut self, bytes: &[u8; BOOK_SIZE], text: &mut Lent) -> Result<(), Refusal>
+        requires { HasRoom cut_room text.old }
         ensures { CutAdds cut_room text.old text.new self.old self.new (verdict_told result) (cut_second_in self.old.plan self.old.at self.old.kept self.old.handed bytes.now) }
     {
         self.before(text)?;
@@ -93,11 +89,11 @@ impl Cut {
 
     // The seconds of a block, until one is refused or the handover is. A loop beside that of `report`: one for both would ask for a closure that holds
     // the cut and the text, which is no plainer.
-    fn seconds(&mut self, seconds: &[u8], text: &mut Lent) -> Result<(), Refusal>
-        requires { (length seconds.now ≤ second_size * per_block) × HasRoom cut_block_room text.old }
-        ensures { CutAdds cut_block_room text.old text.new self.old self.new (verdict_told result) (cut_seconds_in self.old.plan self.old.at self.old.kept self.old.handed (all_seconds seconds.now)) }
+    fn seconds(&mut self, seconds: &[[u8; BOOK_SIZE]], text: &mut Lent) -> Result<(), Refusal>
+        requires { (length seconds.now ≤ per_block) × HasRoom cut_block_room text.old }
+        ensures { CutAdds cut_block_room text.old text.new self.old self.new (verdict_told result) (cut_seconds_in self.old.plan self.old.at self.old.kept self.old.handed seconds.now) }
     {
-        for second in seconds.chunks_exact(BOOK_SIZE) {
+        for second in seconds {
             self.second(second, text)?;
         }
         Ok(())

@@ -8,6 +8,5 @@ returns c =
     let unit = rw c.unwrap.ensures at c.split_first_chunk_mut.ensures.cases in
     let a = rw c.unwrap-2.ensures at c.split_first_chunk_mut-2.ensures.cases in
     let b = rw c.unwrap-3.ensures at c.as_mut_array.ensures.cases in
-    let same = c.copy_from_slice.ensures.after in
-    let p = parts_of c.args.bytes.now c.requires (rw same at unit.0) (rw same at unit.1) a.0 (b.same ∙ a.1) in
+    let p = parts_of c.args.bytes.now c.told-bytes unit.0 unit.1 a.0 (b.same ∙ a.1) in
     rw (c.move_back.ensures, c.move_back-2.ensures, c.move_back-3.ensures, p.unit_part, p.a_part, p.b_part) refl

@@ -7,7 +7,7 @@ use Rattle.cut_run.proofs.Cut.block.Goals as goal
 
 pub seconds-requires : goal.seconds-requires
 seconds-requires c =
-    let f = read_seconds c.args.bytes.now c.args.self.now.plan.seconds c.args.n c.in_ok-seconds.was c.read_block.ensures.count c.read_block.ensures.bytes in
+    let f = read_seconds c.args.bytes.now c.args.self.now.plan.seconds c.args.n c.in_ok-seconds.was c.read_block.ensures.count c.read_block.ensures.each in
     (f.few, c.requires)
 
 pub returns-in_err-seconds : goal.returns-in_err-seconds
@@ -17,5 +17,5 @@ returns-in_err-seconds c =
 
 pub returns : goal.returns
 returns c =
-    let f = read_seconds c.args.bytes.now c.args.self.now.plan.seconds c.args.n c.in_ok-seconds.was c.read_block.ensures.count c.read_block.ensures.bytes in
-    rw (in_turn c.args.self.now c.args.n c.args.bytes.now _ f.number f.each) c.seconds.ensures
+    let f = read_seconds c.args.bytes.now c.args.self.now.plan.seconds c.args.n c.in_ok-seconds.was c.read_block.ensures.count c.read_block.ensures.each in
+    rw (in_turn c.args.self.now c.args.n c.args.bytes.now _ f.number f.is) c.seconds.ensures
