@@ -1,11 +1,5 @@
 -- The bytes of a book in turn: cut anywhere; bytes that a block is due for, or none. Assumes nothing.
-use mathlib.Core.Path.{◌≡◌, refl, sym, ap, ◌∙◌}
-use mathlib.Core.Bool.{Bool, true, false}
-use mathlib.Core.List.{List, [], ◌∷◌, ◌++◌, append_assoc, append-nil}
-use Prim.Native.Nat.{ℕ, ◌+◌, ◌<◌}
-use native.Mathlib.Omega.{arith}
-use lib.ListN.{length, length-append}
-use borrow.Author.Tests.{eq-eqb, ne_eqb}
+use Rattle.std.proofs.Common.{◌≡◌, refl, sym, ap, ◌∙◌, Bool, true, false, List, [], ◌∷◌, ◌++◌, append_assoc, append-nil, ℕ, ◌+◌, ◌<◌, arith, length, length-append, eq-eqb, ne_eqb}
 use Rattle.block.specs.Places.{block_size}
 use Rattle.report.specs.Running.{Verdict, Accepted, Refused}
 use Rattle.standing.specs.Standing.{Standing, Went, unmoved, with_verdict, beyond_by, is_due, standing_in}

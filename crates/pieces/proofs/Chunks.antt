@@ -1,18 +1,15 @@
 -- Bytes of one block: they are gathered, or make it whole, or no block is due for them; and a piece chunk by chunk. Assumes nothing.
-use mathlib.Core.Path.{◌≡◌, refl, sym, ap, ◌∙◌}
-use mathlib.Core.Bool.{true, false}
-use mathlib.Core.List.{List, [], ◌∷◌, ◌++◌, append_assoc, append-nil}
-use Prim.Native.Nat.{ℕ, ◌+◌, ◌*◌, ◌≤◌, ◌<◌, ◌%◌}
-use native.Mathlib.Omega.{arith}
-use lib.ListN.{length, take, length-append}
-use lib.Seq.{take_at, take_all, length-take-le}
+use Rattle.std.proofs.Common.{◌≡◌, refl, sym, ap, ◌∙◌, true, false, List, [], ◌∷◌, ◌++◌, append_assoc, append-nil, ℕ, ◌+◌, ◌*◌, ◌≤◌, ◌<◌, ◌%◌, arith, length, length-append}
 use Rattle.block.specs.Places.{block_size}
+use Rattle.codec.specs.declared.lent.Lent.{Lent}
 use Rattle.codec.specs.Put.{Put}
-use Rattle.codec.proofs.Puts.{kept, both, sized, loosen, none}
+use Rattle.codec.specs.Lent.{HasRoom, Grown}
+use Rattle.codec.proofs.Lents.{both, loosen, none}
+use Rattle.codec.proofs.Puts.{sized}
 use Rattle.report.specs.Text.{block_room}
-use Rattle.standing.specs.Standing.{Standing, Advance, Went, beyond_by, is_due, standing_in, StandingReady, Advances}
+use Rattle.standing.specs.Standing.{Standing, Went, beyond_by, is_due, standing_in, Advances}
 use Rattle.standing.proofs.Steps.{none_left, beyond_is, beyond_text}
-use Rattle.pieces.specs.Pieces.{Reading, Taken, onward, bytes_in, piece_size, piece_room, part_of, ReadingReady, Fitting, Chunked}
+use Rattle.pieces.specs.Pieces.{Reading, onward, left_by, bytes_in, piece_size, piece_room, Takes, Fitting, Chunked}
 use Rattle.pieces.proofs.Bytes.{cut, beyond, filling, filled_up, whole_block}
 
 -- ---- the bytes of one block
@@ -25,148 +22,100 @@ none_due : (st : Standing) (p s : List ℕ) → 0 < length s → is_due st ≡ f
 none_due st p [] some d = absurd (omega arith)
 none_due st p (b ∷ s) some d = beyond st p b s d
 
--- none is due
-pub past_last_lem : (r : Reading) {s b : List ℕ} {used : ℕ} {st : Standing} → Fitting r s → used + block_room ≤ length b → is_due r.standing ≡ false → st ≡ (beyond_by r.standing.verdict r.standing s).standing → StandingReady st → Chunked block_room r s b b used (record { reading = record { standing = st; part = r.part; filled = 0 }; used = used })
-past_last_lem r {s} {b} {used} {st} fit room d is ready =
-    record {
-      takes =
-          rw (none_due r.standing (part_of r) s fit.some d)
-          (record {
-            standing = is;
-            part = sym (none_left r.standing s) ∙ ap (λ (w : Went). w.part) (beyond_is r.standing s d);
-            text = rw (beyond_text r.standing.verdict r.standing s) (loosen (omega arith) (none b used (omega arith)));
-            ready = record { standing = ready; size = fit.ready.size; short = omega arith };
-          });
-      paced = omega arith;
-    }
+module _ (r : Reading) {s : List ℕ} {t : Lent} where
+  gives : {m : ℕ} {u : Lent} {v : Reading} {w : Went} → bytes_in r.standing r.part s ≡ w → v ≡ left_by w → Grown m t u w.text → u.at * block_size + length v.part * block_room ≤ t.at * block_size + (length r.part + length s) * block_room → Chunked m r s t u v
+  gives all is text paced = record { reading = rw all is; text = rw all text; paced = paced }
 
--- one is: the bytes are put after those of it that were there
-module _ (r : Reading) {s e : List ℕ} {m n : ℕ} (fit : Fitting r s) (due : is_due r.standing ≡ true) (put : Put m r.part e r.filled n s) where
-  begun : length (part_of r) ≡ r.filled
-  begun = length-take-le r.filled r.part (omega (arith, fit.ready.short, fit.ready.size))
+  -- none is due
+  pub past_last_lem : {st : Standing} → Fitting r s → HasRoom block_room t → is_due r.standing ≡ false → st ≡ (beyond_by r.standing.verdict r.standing s).standing → Chunked block_room r s t t (record { standing = st; part = [] })
+  past_last_lem fit room d is =
+      let empty = sym (none_left r.standing s) ∙ ap (λ (w : Went). w.part) (beyond_is r.standing s d) in
+      gives (none_due r.standing r.part s fit.some d) (λ i. record { standing = is i; part = empty i })
+      (rw (beyond_text r.standing.verdict r.standing s) (loosen (omega arith) (none t (omega (arith, room)))))
+      (omega arith)
 
-  gathered : take n e ≡ part_of r ++ s
-  gathered =
-      let l : length (part_of r ++ s) ≡ n = length-append (part_of r) s ∙ ap (λ (k : ℕ). k + length s) begun ∙ sym put.next in
-      ap (take n) (put.bytes ∙ sym (append_assoc (part_of r) s _)) ∙ take_at (part_of r ++ s) _ n l
+  -- one is: the bytes are put after those of it that were there
+  pub still_short : HasRoom block_room t → is_due r.standing ≡ true → length r.part + length s < block_size → Chunked block_room r s t t (record { standing = r.standing; part = r.part ++ s })
+  still_short room due h =
+      gives (filling r.standing r.part s due h) refl (loosen (omega arith) (none t (omega (arith, room)))) (omega (arith, length-append r.part s))
 
-  pub still_short : {b : List ℕ} {used : ℕ} → used + block_room ≤ length b → n < block_size → Chunked block_room r s b b used (record { reading = record { standing = r.standing; part = e; filled = n }; used = used })
-  still_short {b} {used} room h =
-      let l = begun in
-      let next = put.next in
-      record {
-        takes =
-            rw (filling r.standing (part_of r) s due (omega arith))
-            (record {
-              standing = refl;
-              part = gathered;
-              text = loosen (omega arith) (none b used (omega arith));
-              ready = record { standing = fit.ready.standing; size = kept put ∙ fit.ready.size; short = h };
-            });
-        paced = omega arith;
-      }
+  pub now_whole : {u : Lent} {st : Standing} → 0 < length s → is_due r.standing ≡ true → length r.part + length s ≡ block_size → Advances block_room t u st (standing_in r.standing (r.part ++ s)) → Chunked block_room r s t u (record { standing = st; part = [] })
+  now_whole some due size f =
+      let empty = sym (none_left r.standing (r.part ++ s)) in
+      gives (full r.standing r.part s some due size) (λ i. record { standing = f.standing i; part = empty i }) f.text (omega (arith, f.text.put.most, size))
 
-  pub now_whole : {b o : List ℕ} {used : ℕ} {a : Advance} → block_size ≤ n → Advances block_room b o used a (standing_in r.standing e) → Chunked block_room r s b o used (record { reading = record { standing = a.standing; part = e; filled = 0 }; used = a.used })
-  now_whole {b} {o} {used} {a} h f =
-      let l = begun in
-      let next = put.next in
-      let fits = fit.fits in
-      let whole : e ≡ part_of r ++ s = sym (take_all n e (omega (arith, kept put, fit.ready.size))) ∙ gathered in
-      let is : bytes_in r.standing (part_of r) s ≡ standing_in r.standing e =
-      full r.standing (part_of r) s fit.some due (omega arith) ∙ ap (standing_in r.standing) (sym whole) in
-      record {
-        takes =
-            rw is
-            (record {
-              standing = f.standing;
-              part = sym (none_left r.standing e);
-              text = f.text;
-              ready = record { standing = f.ready; size = kept put ∙ fit.ready.size; short = omega arith };
-            });
-        paced = omega (arith, f.text.most);
-      }
+  -- a whole block is, and lies in the piece
+  pub whole_lies : {u : Lent} {st : Standing} → r.part ≡ [] → length s ≡ block_size → Advances block_room t u st (standing_in r.standing s) → Chunked block_room r s t u (record { standing = st; part = r.part })
+  whole_lies empty size f =
+      let none_is = empty ∙ sym (none_left r.standing s) in
+      gives (ap (λ (p : List ℕ). bytes_in r.standing p s) empty ∙ whole_block r.standing s size) (λ i. record { standing = f.standing i; part = none_is i }) f.text (omega (arith, f.text.put.most, size))
 
--- a whole block is, and lies in the piece
-pub whole_lies : (r : Reading) {x b o : List ℕ} {used : ℕ} {a : Advance} → ReadingReady r → r.filled ≡ 0 → length x ≡ block_size → Advances block_room b o used a (standing_in r.standing x) → Chunked block_room r x b o used (record { reading = record { standing = a.standing; part = r.part; filled = r.filled }; used = a.used })
-whole_lies r {x} {b} {o} {used} {a} ready empty size f =
-    let begun : part_of r ≡ [] = ap (λ (k : ℕ). take k r.part) empty in
-    record {
-      takes =
-          rw (begun, whole_block r.standing x size)
-          (record {
-            standing = f.standing;
-            part = begun ∙ sym (none_left r.standing x);
-            text = f.text;
-            ready = record { standing = f.ready; size = ready.size; short = ready.short };
-          });
-      paced = omega (arith, f.text.most, size);
-    }
+-- ---- a buffer lent whole
+
+pub at_front : {m : ℕ} {b e x : List ℕ} {t u : Lent} → t.buf.now ≡ b → t.at ≡ 0 → e ≡ u.buf.now → Grown m t u x → Put m b e 0 u.at x
+at_front bytes begin end g = rw end (rw (bytes, begin) at g.put)
 
 -- ---- a piece chunk by chunk
 
--- of the bytes s all but `rest` are taken: they added `added`, and all of them give that and what the rest gives
-pub record Through (r : Reading) (s b e : List ℕ) (used : ℕ) (t : Taken) (rest : List ℕ) : Type 0 where
+-- of the bytes s all but `rest` are taken: they put `added` into the lent buffer t, that is u, and left v; all of them give that and what the rest gives
+pub record Through (r : Reading) (s : List ℕ) (t u : Lent) (v : Reading) (rest : List ℕ) : Type 0 where
   pub added : List ℕ
-  pub put : Put piece_room b e used t.used added
-  pub whole : bytes_in r.standing (part_of r) s ≡ onward added (bytes_in t.reading.standing (part_of t.reading) rest)
-  pub paced : t.used * block_size + (t.reading.filled + length rest) * block_room ≤ used * block_size + (r.filled + length s) * block_room
-  pub same : length e ≡ length b
-  pub ready : ReadingReady t.reading
+  pub put : Grown piece_room t u added
+  pub whole : bytes_in r.standing r.part s ≡ onward added (bytes_in v.standing v.part rest)
+  pub paced : u.at * block_size + (length v.part + length rest) * block_room ≤ t.at * block_size + (length r.part + length s) * block_room
 
-pub start : {r : Reading} {s b : List ℕ} {used : ℕ} → ReadingReady r → used ≤ length b → Through r s b b used (record { reading = r; used = used }) s
-start {r} {s} {b} {used} ready h =
-    record { added = []; put = loosen (omega arith) (none b used h); whole = refl; paced = omega arith; same = refl; ready = ready }
+pub start : {r : Reading} {s : List ℕ} {t : Lent} → t.at ≤ length t.buf.now → Through r s t t r s
+start {t = t} h = record { added = []; put = loosen (omega arith) (none t h); whole = refl; paced = omega arith }
 
-module _ {r : Reading} {s b c rest : List ℕ} {used : ℕ} {t : Taken} (ready : ReadingReady r) (few : length s ≤ piece_size) (f : Through r s b c used t rest) where
-  pub has_room : used + piece_room ≤ length b → t.used + block_room ≤ length c
-  has_room h = omega (arith, f.paced, f.same, ready.short)
+module _ {r v : Reading} {s rest : List ℕ} {t u : Lent} (short : length r.part < block_size) (few : length s ≤ piece_size) (f : Through r s t u v rest) where
+  pub has_room : HasRoom piece_room t → HasRoom block_room u
+  has_room h = omega (arith, f.paced, f.put.long, h)
 
-  pub more : {m : ℕ} {e x after : List ℕ} {u : Taken} → rest ≡ x ++ after → Chunked m t.reading x c e t.used u → Through r s b e used u after
-  more {m} {e} {x} {after} {u} is d =
-      let w = bytes_in t.reading.standing (part_of t.reading) x in
+  pub more : {m : ℕ} {x after : List ℕ} {w : Lent} {y : Reading} → rest ≡ x ++ after → Chunked m v x u w y → Through r s t w y after
+  more {m} {x} {after} {w} {y} is d =
+      let b = bytes_in v.standing v.part x in
       let len : length rest ≡ length x + length after = ap length is ∙ length-append x after in
-      let all : bytes_in r.standing (part_of r) s ≡ onward f.added (onward w.text (bytes_in u.reading.standing (part_of u.reading) after)) =
+      let all : bytes_in r.standing r.part s ≡ onward f.added (onward b.text (bytes_in y.standing y.part after)) =
       f.whole
-      ∙ ap (λ (l : List ℕ). onward f.added (bytes_in t.reading.standing (part_of t.reading) l)) is
-      ∙ ap (onward f.added) (cut t.reading.standing (part_of t.reading) x after ∙ rw (← d.takes.standing, ← d.takes.part)) in
-      let pace : u.used * block_size + (u.reading.filled + length after) * block_room ≤ used * block_size + (r.filled + length s) * block_room = omega (arith, d.paced, f.paced) in
-      let text = both f.put d.takes.text in
+      ∙ ap (λ (l : List ℕ). onward f.added (bytes_in v.standing v.part l)) is
+      ∙ ap (onward f.added) (cut v.standing v.part x after ∙ rw d.reading) in
+      let pace : w.at * block_size + (length y.part + length after) * block_room ≤ t.at * block_size + (length r.part + length s) * block_room = omega (arith, d.paced, f.paced) in
+      let text = both f.put d.text in
       record {
-        added = f.added ++ w.text;
-        put = sized (omega (arith, text.next, pace, ready.short)) text;
+        added = f.added ++ b.text;
+        put = record { same = text.same; long = text.long; put = sized (omega (arith, text.put.next, pace, short)) text.put };
         whole = all ∙ rw append_assoc;
         paced = pace;
-        same = kept d.takes.text ∙ f.same;
-        ready = d.takes.ready;
       }
 
 nothing : (l : List ℕ) → length l ≡ 0 → l ≡ []
 nothing [] e = refl
 nothing (b ∷ l) e = absurd (omega (arith, e))
 
-pub finished : {r : Reading} {s b e rest : List ℕ} {used : ℕ} {t : Taken} → Through r s b e used t rest → length rest ≡ 0 → Chunked piece_room r s b e used t
+pub finished : {r v : Reading} {s rest : List ℕ} {t u : Lent} → Through r s t u v rest → length rest ≡ 0 → Chunked piece_room r s t u v
 unfolding bytes_in
-finished {r} {s} {rest = rest} {t = t} f left =
-    let all : bytes_in r.standing (part_of r) s ≡ record { text = f.added; standing = t.reading.standing; part = part_of t.reading } =
+finished {r} {v} {s} {rest} f left =
+    let all : bytes_in r.standing r.part s ≡ record { text = f.added; standing = v.standing; part = v.part } =
     f.whole ∙ rw (nothing rest left) (rw append-nil) in
-    record {
-      takes = rw all (record { standing = refl; part = refl; text = f.put; ready = f.ready });
-      paced = omega (arith, f.paced);
-    }
+    record { reading = rw all; text = rw all f.put; paced = omega (arith, f.paced) }
+
+-- all of a piece
+pub whole_piece : {r v : Reading} {s b e : List ℕ} {t u : Lent} → t.buf.now ≡ b → t.at ≡ 0 → e ≡ u.buf.now → Chunked piece_room r s t u v → Takes piece_room b e u.at v (bytes_in r.standing r.part s)
+whole_piece bytes begin end d = record { reading = d.reading; text = at_front bytes begin end d.text }
 
 -- ---- whole blocks
 
 -- likewise, where no block is begun and whole blocks are left
-pub record Blocks (r : Reading) (s b e : List ℕ) (used : ℕ) (t : Taken) (rest : List ℕ) : Type 0 where
-  pub through : Through r s b e used t rest
-  pub empty : t.reading.filled ≡ 0
+pub record Blocks (r : Reading) (s : List ℕ) (t u : Lent) (v : Reading) (rest : List ℕ) : Type 0 where
+  pub through : Through r s t u v rest
+  pub empty : v.part ≡ []
   pub even : length rest % block_size ≡ 0
 
-pub one_block : {r : Reading} {s b c e rest after : List ℕ} (x : List ℕ) {used : ℕ} {t : Taken} {a : Advance} → ReadingReady r → length s ≤ piece_size → Blocks r s b c used t rest → rest ≡ x ++ after → length x ≡ block_size → Advances block_room c e t.used a (standing_in t.reading.standing x) → Blocks r s b e used (record { reading = record { standing = a.standing; part = t.reading.part; filled = t.reading.filled }; used = a.used }) after
-one_block {rest = rest} {after} x {t = t} ready few f is size d =
+pub one_block : {r v : Reading} {s rest after : List ℕ} {t u w : Lent} (x : List ℕ) {st : Standing} → length r.part < block_size → length s ≤ piece_size → Blocks r s t u v rest → rest ≡ x ++ after → length x ≡ block_size → Advances block_room u w st (standing_in v.standing x) → Blocks r s t w (record { standing = st; part = v.part }) after
+one_block {v = v} {rest = rest} {after} x short few f is size d =
     let len : length rest ≡ length x + length after = ap length is ∙ length-append x after in
     record {
-      through = more ready few f.through is (whole_lies t.reading f.through.ready f.empty size d);
+      through = more short few f.through is (whole_lies v f.empty size d);
       empty = f.empty;
       even = omega (arith, f.even, len, size);
     }

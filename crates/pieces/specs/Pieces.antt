@@ -1,15 +1,16 @@
 -- A book taken as its bytes come: what each adds to the text, and where the book stands then. That all of it is `printed` of the bytes is a claim
 -- (`printed/specs/Claims.antt`).
-use Rattle.std.specs.Prelude.{◌≡◌, ℕ, ◌+◌, ◌*◌, ◌-◌, ◌≤◌, ◌<◌, min, Bool, true, false, List, [], ◌∷◌, ◌++◌, eqb, length, take}
+use Rattle.std.specs.Prelude.{◌≡◌, ℕ, ◌+◌, ◌*◌, ◌-◌, ◌≤◌, ◌<◌, min, Bool, true, false, List, [], ◌∷◌, ◌++◌, eqb, length}
 use Rattle.sheet.specs.declared.Sheet.{Sheet}
 use Rattle.block.specs.Places.{block_size}
+use Rattle.codec.specs.declared.lent.Lent.{Lent}
 use Rattle.codec.specs.Put.{Put}
+use Rattle.codec.specs.Lent.{Grown}
 use Rattle.line.specs.Widths.{row_room}
 use Rattle.report.specs.declared.Form.{Form}
 use Rattle.report.specs.Running.{Verdict, Accepted, Refused}
 use Rattle.report.specs.Text.{counts_of, second_room, block_room}
-use Rattle.standing.specs.Standing.{Standing, stood, Went, unmoved, start, is_due, standing_in, last_line_in, bytes_due, StandingReady}
-use Rattle.pieces.specs.declared.reading.Reading.{Reading as Held}
+use Rattle.standing.specs.Standing.{Standing, Went, unmoved, start, is_due, standing_in, last_line_in, bytes_due}
 
 -- ---- byte after byte
 
@@ -61,52 +62,38 @@ wanted_by Accepted true left = min left piece_size
 unfoldable pub wanted_in : Standing → ℕ → ℕ
 wanted_in st filled = wanted_by st.verdict (is_due st) (bytes_due st - filled)
 
--- where a book stands as its bytes come: `filled` bytes of the next block are in `part`
+-- where a book stands as its bytes come, with the bytes of the next block that are there
 pub record Reading : Type 0 where
   pub standing : Standing
   pub part : List ℕ
-  pub filled : ℕ
 
--- what the code's reading says
-abbrev pub reads : Held → Reading
-reads h = record { standing = stood h.standing; part = h.part; filled = h.filled }
+-- before the first byte
+abbrev pub unread : Sheet → Form → Reading
+unread sh f = record { standing = start sh f; part = [] }
 
--- after a piece, with `used` bytes of text in the buffer
-pub record Taken : Type 0 where
-  pub reading : Reading
-  pub used : ℕ
+-- where it stands after w
+abbrev pub left_by : Went → Reading
+left_by w = record { standing = w.standing; part = w.part }
 
--- the bytes of the next block that a reading has; those of its array from `filled` on are no part of it
-abbrev pub part_of : Reading → List ℕ
-part_of r = take r.filled r.part
-
-pub record ReadingReady (r : Reading) : Type 0 where
-  pub standing : StandingReady r.standing
-  pub size : length r.part ≡ block_size
-  pub short : r.filled < block_size
-
-pub record Takes (m : ℕ) (b e : List ℕ) (used : ℕ) (r : Taken) (w : Went) : Type 0 where
-  pub standing : r.reading.standing ≡ w.standing
-  pub part : part_of r.reading ≡ w.part
-  pub text : Put m b e used r.used w.text
-  pub ready : ReadingReady r.reading
+-- a piece gave w: its text, of at most m bytes, is put at the front of the buffer b, that is e, up to byte n; r is where the book stands then
+pub record Takes (m : ℕ) (b e : List ℕ) (n : ℕ) (r : Reading) (w : Went) : Type 0 where
+  pub reading : r ≡ left_by w
+  pub text : Put m b e 0 n w.text
 
 -- some bytes that fit the block next in turn
 pub record Fitting (r : Reading) (s : List ℕ) : Type 0 where
-  pub ready : ReadingReady r
   pub some : 0 < length s
-  pub fits : r.filled + length s ≤ block_size
+  pub fits : length r.part + length s ≤ block_size
 
--- a block's text is added only where a block is whole, so no more room is used than the bytes ask for
-pub record Chunked (m : ℕ) (r : Reading) (s b e : List ℕ) (used : ℕ) (t : Taken) : Type 0 where
-  pub takes : Takes m b e used t (bytes_in r.standing (part_of r) s)
-  pub paced : t.used * block_size + t.reading.filled * block_room ≤ used * block_size + (r.filled + length s) * block_room
+-- the text of the bytes s, of at most m bytes, is put into the lent buffer t, that is u; v is where the book stands then. A block's text is added
+-- only where a block is whole, so no more room is used than the bytes ask for
+pub record Chunked (m : ℕ) (r : Reading) (s : List ℕ) (t u : Lent) (v : Reading) : Type 0 where
+  pub reading : v ≡ left_by (bytes_in r.standing r.part s)
+  pub text : Grown m t u (bytes_in r.standing r.part s).text
+  pub paced : u.at * block_size + length v.part * block_room ≤ t.at * block_size + (length r.part + length s) * block_room
 
-pub record IsStart (sh : Sheet) (f : Form) (r : Reading) : Type 0 where
-  pub standing : r.standing ≡ start sh f
-  pub part : part_of r ≡ []
-  pub ready : ReadingReady r
-
+-- and what every reading's bytes are: less than a block
 pub record Wanted (r : Reading) (n : ℕ) : Type 0 where
-  pub is : n ≡ wanted_in r.standing r.filled
+  pub is : n ≡ wanted_in r.standing (length r.part)
   pub most : n ≤ piece_size
+  pub short : length r.part < block_size

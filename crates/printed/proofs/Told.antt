@@ -1,14 +1,6 @@
 -- The bytes of a book, block after block, give what is printed of it. Assumes nothing.
-use mathlib.Core.Path.{◌≡◌, refl, sym, ap, ◌∙◌}
-use mathlib.Core.Bool.{Bool, true, false}
-use mathlib.Core.List.{List, [], ◌∷◌, ◌++◌, append_assoc}
-use Prim.Native.Nat.{ℕ, zero, suc, ◌+◌, ◌≤◌, ◌<◌}
-use native.Mathlib.Numerals.{add-one}
-use native.Mathlib.Omega.{arith}
-use lib.Dec.{leb}
-use lib.ListN.{length, take, drop, length-take, take-append-drop}
-use lib.Seq.{take_all}
-use borrow.Author.Tests.{leb-true, leb-false, le-leb, lt-leb, ne_eqb}
+use Rattle.std.proofs.Common.{◌≡◌, refl, sym, ap, ◌∙◌, Bool, true, false, List, [], ◌∷◌, ◌++◌, append_assoc, ℕ, zero, suc, ◌+◌, ◌≤◌, ◌<◌, add-one, arith, leb, length, take, drop, length-take, take-append-drop, take_all, leb-true, leb-false, le-leb, ne_eqb}
+use borrow.Author.Tests.{lt-leb}
 use Rattle.numbers.specs.Rules.{or_else, first}
 use Rattle.sheet.specs.declared.Sheet.{Sheet}
 use Rattle.sheet.specs.Sheet.{InRange}
@@ -20,7 +12,7 @@ use Rattle.block.specs.Header.{header_number, owner_of, seconds_of}
 use Rattle.block.specs.Block.{block_number, count_of, seconds_from}
 use Rattle.block.specs.Book.{Held, held_by, past_last, later_blocks, last_block}
 use Rattle.report.specs.declared.Form.{Form}
-use Rattle.report.specs.declared.run.Kept.{Kept}
+use Rattle.report.specs.Kept.{Kept}
 use Rattle.report.specs.Running as verdict
 use Rattle.report.specs.Running.{Ran, block_in, seconds_in}
 use Rattle.report.specs.Counts.{tally_of, kept_of}

@@ -1,5 +1,5 @@
 -- The values of specs/Values.antt, computed. Assumes nothing.
-use mathlib.Core.Path.{refl}
+use Rattle.std.proofs.Common.{refl}
 use Rattle.numbers.specs.Bounds.{outside}
 use Rattle.numbers.specs.Order.{max_z, min_z}
 use Rattle.codec.specs.Little.{twos_complement}

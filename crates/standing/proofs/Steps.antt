@@ -1,14 +1,6 @@
 -- A standing and its blocks: what the header's and a later block's readers answered, and the room of the text. Assumes nothing.
-use mathlib.Core.Path.{◌≡◌, refl, sym, ap, ◌∙◌}
-use mathlib.Core.Bool.{Bool, true, false, cond, true≢false}
-use mathlib.Core.List.{List, [], ◌∷◌}
-use Prim.Native.Nat.{ℕ, zero, suc, ◌+◌, ◌≤◌}
-use native.Mathlib.Omega.{arith}
-use lib.Dec.{eqb}
-use lib.ListN.{length}
-use borrow.Author.Tests.{eq-eqb, ne_eqb, leb-true}
 use Rattle.record.specs.Record.{most_seconds}
-use Rattle.std.proofs.Common.{Result, Ok, Err, is_ok, is_err, leb}
+use Rattle.std.proofs.Common.{Result, Ok, Err, is_ok, is_err, leb, ◌≡◌, refl, sym, ap, ◌∙◌, Bool, true, false, cond, true≢false, List, [], ◌∷◌, ℕ, zero, suc, ◌≤◌, arith, eqb, eq-eqb, ne_eqb, leb-true}
 use Rattle.refusals.specs.declared.Refusal.{Refusal}
 use Rattle.refusals.specs.Refusals.{number_of, number_in}
 use Rattle.refusals.proofs.Laws.{not_zero}
@@ -17,10 +9,12 @@ use Rattle.block.specs.Places.{block_size}
 use Rattle.block.specs.Header.{header_number, header_of, header_says}
 use Rattle.block.specs.Book.{last_block, past_last}
 use Rattle.block.proofs.Taken.{header_fields, header_zero}
-use Rattle.codec.proofs.Puts.{loosen, none}
+use Rattle.codec.specs.declared.lent.Lent.{Lent}
+use Rattle.codec.specs.Lent.{HasRoom}
+use Rattle.codec.proofs.Lents.{loosen, none}
 use Rattle.report.specs.Running.{Verdict, Accepted, Refused, verdict_told, block_in}
 use Rattle.report.specs.Text.{block_room}
-use Rattle.standing.specs.Standing.{Standing, Went, kept_by, with_verdict, after_header, header_by, later_by, beyond_by, due_by, is_due, standing_in, bytes_due, StandingReady, Advances}
+use Rattle.standing.specs.Standing.{Standing, Went, kept_by, with_verdict, after_header, header_by, later_by, beyond_by, due_by, is_due, standing_in, bytes_due, Advances}
 
 -- ---- the verdict
 
@@ -48,16 +42,16 @@ past_last_told st (b ∷ s) (Err e) a h = rw (a, h)
 
 -- ---- the header
 
+pub few : (s : List ℕ) {r : Result Header Refusal} {h : Header} → r ≡ Ok h → header_says r ≡ header_of s → h.seconds ≤ most_seconds
+few s {h = h} is says =
+    let f = header_fields s h.owner h.seconds (sym says ∙ ap header_says is) in
+    omega (arith, f.0.most, f.2)
+
 module _ (st : Standing) (s : List ℕ) where
   pub header_taken : {r : Result Header Refusal} {h : Header} → r ≡ Ok h → header_says r ≡ header_of s → (header_by (header_number s) st s).standing ≡ after_header st h.owner h.seconds
   header_taken {h = h} is says =
       let f = header_fields s h.owner h.seconds (sym says ∙ ap header_says is) in
       rw (header_zero s f.0, f.1, f.2)
-
-  pub few : {r : Result Header Refusal} {h : Header} → r ≡ Ok h → header_says r ≡ header_of s → h.seconds ≤ most_seconds
-  few {h = h} is says =
-      let f = header_fields s h.owner h.seconds (sym says ∙ ap header_says is) in
-      omega (arith, f.0.most, f.2)
 
   no_text : (q : ℕ) → (header_by q st s).text ≡ []
   no_text zero = refl
@@ -109,14 +103,14 @@ none_left st s = go (is_due st) (eqb st.next 0) (header_number s) st.verdict
 -- ---- one block
 
 -- one that adds no text
-module _ (st : Standing) (s : List ℕ) {r : Standing} {b : List ℕ} {used : ℕ} (ready : StandingReady r) (room : used + block_room ≤ length b) where
-  quiet : {w : Went} → r ≡ w.standing → w.text ≡ [] → Advances block_room b b used (record { standing = r; used = used }) w
-  quiet is silent = record { standing = is; text = rw silent (loosen (omega arith) (none b used (omega arith))); ready = ready }
+module _ (st : Standing) (s : List ℕ) {r : Standing} {t : Lent} (room : HasRoom block_room t) where
+  quiet : {w : Went} → r ≡ w.standing → w.text ≡ [] → Advances block_room t t r w
+  quiet is silent = record { standing = is; text = rw silent (loosen (omega arith) (none t (omega (arith, room)))) }
 
-  pub past_due : is_due st ≡ false → r ≡ (beyond_by st.verdict st s).standing → Advances block_room b b used (record { standing = r; used = used }) (standing_in st s)
+  pub past_due : is_due st ≡ false → r ≡ (beyond_by st.verdict st s).standing → Advances block_room t t r (standing_in st s)
   past_due d is = rw (beyond_is st s d) (quiet is (beyond_text st.verdict st s))
 
-  pub header_block : is_due st ≡ true → st.next ≡ 0 → r ≡ (header_by (header_number s) st s).standing → Advances block_room b b used (record { standing = r; used = used }) (standing_in st s)
+  pub header_block : is_due st ≡ true → st.next ≡ 0 → r ≡ (header_by (header_number s) st s).standing → Advances block_room t t r (standing_in st s)
   header_block d z is = rw (header_is st s d z) (quiet is (no_text st s (header_number s)))
 
 -- ---- the bytes that are due
@@ -129,8 +123,8 @@ due_next st d = go st.verdict d
     go (Refused n) e = let z : ◌≡◌ {A = Bool} true false = sym e in absurd (true≢false z)
     go Accepted e = (refl, leb-true _ _ e)
 
-pub due_few : (st : Standing) → StandingReady st → is_due st ≡ true → st.next ≤ most_seconds
-due_few st f d = omega (arith, (due_next st d).1, f.few)
+pub due_few : (st : Standing) → st.plan.seconds ≤ most_seconds → is_due st ≡ true → st.next ≤ most_seconds
+due_few st f d = omega (arith, (due_next st d).1, f)
 
 pub due_block : (st : Standing) → is_due st ≡ true → block_size ≤ bytes_due st
 unfolding bytes_due

@@ -1,1 +1,2 @@
 pub mod Standing
+pub mod Stood

@@ -1,21 +1,20 @@
 -- A book block after block: what each block adds to the text, where the book stands then, and what the end of the bytes says.
-use Rattle.std.specs.Prelude.{◌≡◌, ℕ, zero, suc, ◌+◌, ◌*◌, ◌-◌, ◌≤◌, Bool, true, false, cond, List, [], ◌∷◌, eqb, leb}
+use Rattle.std.specs.Prelude.{◌≡◌, ℕ, zero, suc, ◌+◌, ◌*◌, ◌-◌, Bool, true, false, cond, List, [], ◌∷◌, eqb, leb}
 use Rattle.sheet.specs.declared.Sheet.{Sheet}
 use Rattle.book.specs.declared.Book.{Book}
 use Rattle.book.specs.State.{fresh}
 use Rattle.tally.specs.Tally as tally
-use Rattle.record.specs.Record.{most_seconds}
 use Rattle.block.specs.Places.{block_size}
 use Rattle.block.specs.Header.{header_number, owner_of, seconds_of}
 use Rattle.block.specs.Book.{last_block}
-use Rattle.codec.specs.Put.{Put}
+use Rattle.codec.specs.declared.lent.Lent.{Lent}
+use Rattle.codec.specs.Lent.{Grown}
 use Rattle.line.specs.Line.{sum_text, refusal_text}
 use Rattle.tally.specs.declared.Tally.{Tally}
 use Rattle.report.specs.declared.Form.{Form}
-use Rattle.report.specs.declared.run.Kept.{Kept}
 use Rattle.report.specs.declared.run.Plan.{Plan}
-use Rattle.report.specs.Running.{Verdict, Accepted, Refused, verdict_told, keep, Ran, block_in, KeptReady}
-use Rattle.standing.specs.declared.Standing.{Standing as Held}
+use Rattle.report.specs.Kept.{Kept, keep}
+use Rattle.report.specs.Running.{Verdict, Accepted, Refused, Ran, block_in}
 
 -- ---- where a book stands
 
@@ -26,15 +25,6 @@ pub record Standing : Type 0 where
   pub book : Book
   pub tally : Tally
   pub verdict : Verdict
-
--- what the code's standing says
-abbrev pub stood : Held → Standing
-stood h = record { plan = h.plan; next = h.next; book = h.kept.book; tally = h.kept.tally; verdict = verdict_told h.verdict }
-
--- after a block, with `used` bytes of text in the buffer
-pub record Advance : Type 0 where
-  pub standing : Standing
-  pub used : ℕ
 
 -- ---- block after block
 
@@ -117,11 +107,7 @@ last_line_in st = last_by (end_of st) st.book
 unfoldable pub bytes_due : Standing → ℕ
 bytes_due st = (last_block st.plan.seconds + 1 - st.next) * block_size
 
-pub record StandingReady (st : Standing) : Type 0 where
-  pub kept : KeptReady (kept_by st)
-  pub few : st.plan.seconds ≤ most_seconds
-
-pub record Advances (m : ℕ) (b e : List ℕ) (used : ℕ) (r : Advance) (w : Went) : Type 0 where
-  pub standing : r.standing ≡ w.standing
-  pub text : Put m b e used r.used w.text
-  pub ready : StandingReady r.standing
+-- with text of at most m bytes put into the lent buffer t, that is u; r is where the book stands then
+pub record Advances (m : ℕ) (t u : Lent) (r : Standing) (w : Went) : Type 0 where
+  pub standing : r ≡ w.standing
+  pub text : Grown m t u w.text

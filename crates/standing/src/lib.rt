@@ -2,30 +2,33 @@
 // text"). A `Standing` says where the book stands between two blocks. Bytes that come in pieces are crate `pieces`.
 #![tactic(auto)]
 
-ghost use Rattle.std.specs.Prelude.{◌+◌, ◌≤◌, ◌≡◌, true, length};
+ghost use Rattle.std.specs.Prelude.{◌≤◌, ◌≡◌, true};
 ghost use Rattle.sheet.specs.Sheet.{InRange};
+ghost use Rattle.codec.specs.Lent.{HasRoom};
 ghost use Rattle.refusals.specs.Refusals.{number_in};
 ghost use Rattle.record.specs.Record.{most_seconds};
 ghost use Rattle.block.specs.Book.{past_last};
 ghost use Rattle.block.specs.Header.{header_number};
 ghost use Rattle.report.specs.Text.{block_room, text_of};
 ghost use Rattle.report.specs.Running.{verdict_told, block_in};
-ghost use Rattle.standing.specs.Standing.{stood, start, kept_by, is_due, bytes_due, header_by, later_by, beyond_by, standing_in, last_by, last_line_in, end_of, StandingReady, Advances};
+ghost use Rattle.standing.specs.Standing.{start, kept_by, is_due, bytes_due, header_by, later_by, beyond_by, standing_in, last_by, last_line_in, end_of, Advances};
 
 use block::Header;
 use book::Book;
+use codec::Lent;
 use refusals::Refusal;
 use report::{Form, Kept, Plan, TextLine};
 use sheet::Sheet;
 
 // Where a book stands between two of its blocks: `next` is the number of the block next in turn, 0 for the header. Before the header the plan
-// has no seconds, so that block 0 is the last one due.
+// has no seconds, so that block 0 is the last one due; it never has more than a book may have.
 #[derive(Clone, Copy)]
 pub struct Standing {
     pub plan: Plan,
     pub next: u32,
     pub kept: Kept,
     pub verdict: Result<(), Refusal>,
+    ghost few: { plan.seconds ≤ most_seconds },
 }
 
 // What bytes after the last block say.
@@ -53,9 +56,12 @@ pub fn last_line(verdict: Result<(), Refusal>, book: &Book) -> TextLine
 }
 
 impl Standing {
+    ghost use Rattle.standing.specs.Stood.{stood};
+
+    #[tactic(auto, unfolding(crate::specs::Standing::start))]
     pub fn new(sheet: Sheet, form: Form) -> Standing
         requires { InRange sheet }
-        ensures { (stood result ≡ start sheet form) × StandingReady (stood result) }
+        ensures { stood result ≡ start sheet form }
     {
         Standing {
             plan: Plan {
@@ -70,16 +76,17 @@ impl Standing {
     }
 
     // Whether a block is due.
+    #[tactic(auto, unfolding(crate::specs::Standing::is_due), using(crate::proofs::Steps::due_ok, crate::proofs::Steps::due_err))]
     pub fn is_due(&self) -> bool
-        requires { StandingReady (stood self.now) }
         ensures { result ≡ is_due (stood self.now) }
     {
         self.verdict.is_ok() && self.next <= block::last_block(self.plan.seconds)
     }
 
     // The bytes of the blocks that are due.
+    #[tactic(auto, unfolding(crate::specs::Standing::bytes_due))]
     pub fn bytes_due(&self) -> usize
-        requires { StandingReady (stood self.now) × (is_due (stood self.now) ≡ true) }
+        requires { is_due (stood self.now) ≡ true }
         ensures { result ≡ bytes_due (stood self.now) }
     {
         let left = block::last_block(self.plan.seconds) + 1 - self.next;
@@ -87,9 +94,9 @@ impl Standing {
     }
 
     // The header gives owner and seconds.
+    #[tactic(auto, using(crate::proofs::Steps::header_taken))]
     fn header(&mut self, bytes: &[u8])
-        requires { StandingReady (stood self.old) }
-        ensures { (stood self.new ≡ (header_by (header_number bytes.now) (stood self.old) bytes.now).standing) × StandingReady (stood self.new) }
+        ensures { stood self.new ≡ (header_by (header_number bytes.now) (stood self.old) bytes.now).standing }
     {
         match block::read_header(bytes) {
             Ok(Header { owner, seconds }) => {
@@ -102,41 +109,42 @@ impl Standing {
     }
 
     // A later block: its seconds are run, or it is refused.
-    fn later(&mut self, bytes: &[u8], out: &mut [u8], used: &mut usize)
-        requires { StandingReady (stood self.old) × (used.old + block_room ≤ length out.old) × (self.old.next ≤ most_seconds) }
-        ensures { Advances block_room out.old out.new used.old (record { standing = stood self.new; used = used.new }) (later_by (block_in self.old.plan self.old.next (kept_by (stood self.old)) bytes.now) (stood self.old)) }
+    fn later(&mut self, bytes: &[u8], text: &mut Lent)
+        requires { HasRoom block_room text.old × (self.old.next ≤ most_seconds) }
+        ensures { Advances block_room text.old text.new (stood self.new) (later_by (block_in self.old.plan self.old.next (kept_by (stood self.old)) bytes.now) (stood self.old)) }
     {
-        self.verdict = report::run_block(&mut self.kept, self.plan, self.next, bytes, out, used);
+        self.verdict = self.kept.run_block(self.plan, self.next, bytes, text);
         self.next += 1;
     }
 
     // Bytes that no block is due for: after the last block they are refused, after a refusal nothing counts.
+    #[tactic(auto, using(crate::proofs::Steps::told_ok, crate::proofs::Steps::past_last_told))]
     pub fn beyond(&mut self, bytes: &[u8])
-        requires { StandingReady (stood self.old) }
-        ensures { (stood self.new ≡ (beyond_by (verdict_told self.old.verdict) (stood self.old) bytes.now).standing) × StandingReady (stood self.new) }
+        ensures { stood self.new ≡ (beyond_by (verdict_told self.old.verdict) (stood self.old) bytes.now).standing }
     {
         if self.verdict.is_ok() {
             self.verdict = past_last(bytes);
         }
     }
 
-    // The next block, of any bytes: its text goes where the text in the buffer ends, at `used`.
-    pub fn block(&mut self, bytes: &[u8], out: &mut [u8], used: &mut usize)
-        requires { StandingReady (stood self.old) × (used.old + block_room ≤ length out.old) }
-        ensures { Advances block_room out.old out.new used.old (record { standing = stood self.new; used = used.new }) (standing_in (stood self.old) bytes.now) }
+    // The next block, of any bytes: its text follows the text in the lent buffer.
+    #[tactic(auto, using(crate::proofs::Steps::due_few, crate::proofs::Steps::later_is))]
+    pub fn block(&mut self, bytes: &[u8], text: &mut Lent)
+        requires { HasRoom block_room text.old }
+        ensures { Advances block_room text.old text.new (stood self.new) (standing_in (stood self.old) bytes.now) }
     {
         if !self.is_due() {
             self.beyond(bytes);
         } else if self.next == 0 {
             self.header(bytes);
         } else {
-            self.later(bytes, out, used);
+            self.later(bytes, text);
         }
     }
 
     // What the end of the bytes says: a block that is due and isn't whole gets 12.
+    #[tactic(auto, unfolding(crate::specs::Standing::end_of))]
     fn end(&self) -> Result<(), Refusal>
-        requires { StandingReady (stood self.now) }
         ensures { verdict_told result ≡ end_of (stood self.now) }
     {
         if self.is_due() {
@@ -146,8 +154,8 @@ impl Standing {
     }
 
     // The sum line, or the refusal.
+    #[tactic(auto, unfolding(crate::specs::Standing::last_line_in))]
     pub fn last_line(&self) -> TextLine
-        requires { StandingReady (stood self.now) }
         ensures { text_of result ≡ last_line_in (stood self.now) }
     {
         last_line(self.end(), &self.kept.book)

@@ -1,6 +1,7 @@
 // A book's run: its bytes are read where the last piece stood, taken, and their text is sent.
+ghost use Rattle.std.specs.Prelude.{◌≡◌};
 ghost use Rattle.sheet.specs.Sheet.{InRange};
-ghost use Rattle.pieces.specs.Pieces.{Reading as Place, reads, ReadingReady, IsStart};
+ghost use Rattle.pieces.specs.Pieces.{Reading as Place, unread};
 ghost use Rattle.stdio.specs.Rest.{rest_of};
 
 use pieces::{PIECE, PIECE_ROOM, Reading};
@@ -22,16 +23,14 @@ pub(crate) struct Run {
 impl Model for Run {
     ghost Value = { Place };
 
-    ghost view = { λ r. reads r.reading };
-
-    ghost invariant = { λ r. ReadingReady (reads r.reading) };
+    ghost view = { λ r. r.reading };
 }
 
 impl Run {
     // Before the first byte, under a sheet whose figures are in range.
     pub(crate) fn new(sheet: Sheet, form: Form) -> Run
         requires { InRange sheet }
-        ensures { IsStart sheet form result }
+        ensures { result ≡ unread sheet form }
     {
         Run {
             reading: Reading::new(sheet, form),

@@ -1,14 +1,24 @@
 -- One block more, and none that is left.
-use Rattle.std.proofs.Common.{◌≡◌, ◌∙◌, length, arith}
-use Rattle.std.specs.Slice.Iter.{chunks_exact_rest}
-use Rattle.pieces.proofs.Chunks.{one_block, finished}
+use Rattle.std.proofs.Common.{◌≡◌, ◌∙◌, ℕ, length, ap, arith}
+use Rattle.std.specs.Slice.Iter.{chunks_exact_rest, chunks_exact_size}
+use Rattle.block.specs.Places.{block_size}
+use Rattle.pieces.proofs.Chunks.{start, one_block, finished}
 use Rattle.pieces.proofs.reading.Reading.take_blocks.Goals as goal
+
+pub loop-block-init : goal.loop-block-init
+loop-block-init c =
+    let same = c.into_iter-block-iterator.ensures.into_iter_gives in
+    let items = c.chunks_exact-block-items.ensures in
+    let size : chunks_exact_size c.into_iter-block-iterator.result ≡ block_size = ap (chunks_exact_size {T = ℕ}) same ∙ items.size in
+    let rest = ap (chunks_exact_rest {T = ℕ}) same ∙ items.rest in
+    let asked = rw (← c.self.view_is) at c.requires in
+    (omega (arith, size), tt, size, rw (rest, ← c.self.view_is) (record { through = start (omega (arith, asked.3)); empty = asked.0; even = asked.1 }))
 
 pub loop-block-preserved : goal.loop-block-preserved
 loop-block-preserved c =
     let inv = c.loop-block.invariant in
     let steps = c.in-Some.ensures.steps in
-    (omega (arith, steps.0, inv.0), tt, steps.0 ∙ inv.2, one_block c.in-Some.block.now c.requires.0 c.requires.3 inv.3 steps.1.0 (steps.1.1 ∙ inv.2) c.block.ensures)
+    (omega (arith, steps.0, inv.0), tt, steps.0 ∙ inv.2, one_block c.in-Some.block.now (omega (arith, ap length c.requires.0)) c.requires.2 inv.3 steps.1.0 (steps.1.1 ∙ inv.2) c.block.ensures)
 
 pub returns : goal.returns
 returns c =

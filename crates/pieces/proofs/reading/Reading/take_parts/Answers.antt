@@ -1,11 +1,16 @@
 -- One chunk more, and none that is left.
-use Rattle.std.proofs.Common.{sym, ◌∙◌}
-use borrow.Author.Tests.{eqb-true}
-use Rattle.pieces.proofs.Chunks.{more, finished}
+use Rattle.std.proofs.Common.{◌<◌, length, sym, ◌∙◌, eqb-true, arith}
+use Rattle.block.specs.Places.{block_size}
+use Rattle.pieces.proofs.Chunks.{start, more, finished}
 use Rattle.pieces.proofs.reading.Reading.take_parts.Goals as goal
 
+pub loop-rest-init : goal.loop-rest-init
+loop-rest-init c = start (omega (arith, c.requires.1))
+
 pub loop-rest-preserved : goal.loop-rest-preserved
-loop-rest-preserved c = more c.requires.0 c.requires.1 c.loop-rest.invariant c.split_at.ensures.by_index.0 c.chunk.ensures
+loop-rest-preserved c =
+    let short : length c.args.self.now.part < block_size = rw (← c.self.view_is) c.self.invariant in
+    more short c.requires.0 c.loop-rest.invariant c.split_at.ensures.by_index.0 c.chunk.ensures
 
 pub returns : goal.returns
 returns c = finished c.loop-rest.invariant (eqb-true _ _ (sym c.is_empty.ensures ∙ c.loop-rest-test.false))

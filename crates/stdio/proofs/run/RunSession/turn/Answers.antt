@@ -4,25 +4,25 @@ use Rattle.std.specs.Io.KnownBytes.{Appends}
 use Rattle.std.proofs.KnownBytes.{Appends-nil}
 use lib.Seq.{take-append-le}
 use Rattle.codec.proofs.Puts.{front}
-use Rattle.pieces.specs.Pieces.{reads, bytes_in, part_of}
+use Rattle.pieces.specs.Pieces.{bytes_in}
 use Rattle.stdio.proofs.Rest.{whatever, goes_on, no_more}
 use Rattle.stdio.proofs.run.RunSession.turn.Goals as goal
 
 pub returns-then-wanted-eq0-clause-ended : goal.returns-then-wanted-eq0-clause-ended
 returns-then-wanted-eq0-clause-ended g c =
-    let none = no_more (reads c.self.inside.reading) c.self.invariant (sym c.wanted-wanted.ensures.is ∙ c.if-wanted-eq0.true) in
+    let none = no_more c.self.inside.reading c.wanted-wanted.ensures.short (sym c.wanted-wanted.ensures.is ∙ c.if-wanted-eq0.true) in
     rw (← c.self.view_is) (λ u. record { enough = whatever _ none; unsent = Appends-nil _ })
 
 pub returns-clause-went : goal.returns-clause-went
 returns-clause-went g c =
-    let r = reads c.self.inside.reading in
+    let r = c.self.inside.reading in
     let read = take c.in_ok-n.n c.receive.new.buf in
     let bound : c.in_ok-n.n ≤ length c.receive.new.buf = c.in_ok-n.ensures.bound in
     let taken = rw (take-append-le c.in_ok-n.n c.receive.new.buf _ bound) at c.take-used.ensures in
     let some : 0 < length read = rw (length-take-le c.in_ok-n.n c.receive.new.buf bound) (omega (arith, c.if-n-eq0.false)) in
     rw (← c.self.view_is) (λ u. record {
       bytes = read;
-      text = (bytes_in r.standing (part_of r) read).text;
+      text = (bytes_in r.standing r.part read).text;
       some = some;
       read = c.in_ok-n.ensures.bytes.0;
       sent = subst (Appends _ _) (front taken.text) c.in_ok-send.ensures;
