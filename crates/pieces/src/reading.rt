@@ -2,7 +2,6 @@
 ghost use Rattle.std.specs.Prelude.{◌≤◌, ◌≡◌, ◌%◌, [], true, length};
 ghost use Rattle.codec.specs.Put.{Put};
 ghost use Rattle.codec.specs.Lent.{HasRoom};
-ghost use Rattle.sheet.specs.Sheet.{InRange};
 ghost use Rattle.block.specs.Places.{block_size};
 ghost use Rattle.report.specs.Text.{block_room};
 ghost use Rattle.standing.specs.Standing.{is_due};
@@ -11,7 +10,7 @@ ghost use Rattle.pieces.specs.Pieces.{bytes_in, last_in, unread, piece_size, pie
 use arrayvec::ArrayVec;
 use codec::Lent;
 use report::Form;
-use sheet::Sheet;
+use sheet::FairSheet;
 use standing::Standing;
 use std::marker::Model;
 
@@ -45,9 +44,8 @@ impl Model for Reading {
 
 impl Reading {
     // Before the first byte, under a sheet whose figures are in range.
-    pub fn new(sheet: Sheet, form: Form) -> Reading
-        requires { InRange sheet }
-        ensures { result ≡ unread sheet form }
+    pub fn new(sheet: FairSheet, form: Form) -> Reading
+        ensures { result ≡ unread sheet.figures form }
     {
         Reading {
             standing: Standing::new(sheet, form),

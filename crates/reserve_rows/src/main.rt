@@ -2,8 +2,8 @@
 #![tactic(auto)]
 
 use report::Form;
-use sheet::Sheet;
+use sheet::FairSheet;
 
 fn main(rt: HostRuntime) {
-    stdio::print_book(&rt, &mut rt.stdin(), Sheet::default(), Form::Figures);
+    stdio::print_book(&rt, &mut rt.stdin(), FairSheet::default(), Form::Figures);
 }

@@ -3,8 +3,8 @@
 #![tactic(auto)]
 
 use report::Form;
-use sheet::Sheet;
+use sheet::FairSheet;
 
 fn main(rt: HostRuntime) {
-    stdio::print_book(&rt, &mut rt.stdin(), Sheet::default(), Form::Shares);
+    stdio::print_book(&rt, &mut rt.stdin(), FairSheet::default(), Form::Shares);
 }

@@ -1,11 +1,13 @@
 -- The 16 bytes of a sheet that stand before its book (D64): "FCR floor, aFRR floor, excess: a byte each; FCR and aFRR reaction time: a byte each; 3
 -- bytes 0; least range, 4 bytes little-endian, signed; 4 bytes 0".
-use Rattle.std.specs.Prelude.{ℕ, Bool, ◌||◌, List, [], ◌∷◌, length, get_or}
-use Rattle.refusals.specs.Refusals.{Answer, answer_by}
+use Rattle.std.specs.Prelude.{ℕ, Bool, ◌||◌, List, [], ◌∷◌, length, get_or, Result, Ok, Err}
+use Rattle.refusals.specs.declared.Refusal.{Refusal}
+use Rattle.refusals.specs.Refusals.{Answer, Given, Refused, number_of, answer_by}
 use Rattle.numbers.specs.Rules.{Rule, refuse, first, differ}
 use Rattle.codec.specs.Little.{u32_at, i32_at}
 use Rattle.power.specs.Units.{kw}
 use Rattle.sheet.specs.declared.Sheet.{Sheet}
+use Rattle.sheet.specs.declared.fair.FairSheet.{FairSheet}
 use Rattle.sheet.specs.Sheet.{sheet_number}
 
 abbrev pub sheet_size : ℕ
@@ -40,3 +42,8 @@ form_number s = first (form_rules s)
 -- what is read of the bytes
 unfoldable pub read_of : List ℕ → Answer Sheet
 read_of s = answer_by (form_number s) (sheet_of s)
+
+-- what a result says, of a sheet its figures
+abbrev pub figures_told : Result FairSheet Refusal → Answer Sheet
+figures_told (Ok sh) = Given sh.figures
+figures_told (Err e) = Refused (number_of e)

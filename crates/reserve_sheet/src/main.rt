@@ -2,15 +2,14 @@
 // sheet is turned down. What is printed is `sheet_printed` of specs/Printed.antt.
 #![tactic(auto)]
 
-ghost use Rattle.std.specs.Prelude.{◌≡◌, length, IfOk};
-ghost use Rattle.reserve_sheet.specs.Form.{sheet_size, sheet_of, spare_set, read_of};
-ghost use Rattle.refusals.specs.Refusals.{told};
-ghost use Rattle.sheet.specs.Sheet.{InRange};
+ghost use Rattle.std.specs.Prelude.{◌≡◌, length};
+ghost use Rattle.reserve_sheet.specs.Form.{sheet_size, sheet_of, spare_set, figures_told, read_of};
 
+use codec::Lent;
 use power::Kw;
 use refusals::Refusal;
 use report::{Form, TextLine};
-use sheet::Sheet;
+use sheet::{FairSheet, Sheet};
 
 // The bytes of a sheet.
 const SIZE: usize = 16;
@@ -38,9 +37,8 @@ fn is_spare_set(s: &[u8]) -> bool
 }
 
 // The sheet of any bytes, its figures in range; or 12 for another length, 18 for a spare byte and 30 for a figure outside its range.
-fn read(s: &[u8]) -> Result<Sheet, Refusal>
-    ensures is { told result ≡ read_of s.now }
-    ensures in_range { IfOk result InRange }
+fn read(s: &[u8]) -> Result<FairSheet, Refusal>
+    ensures { figures_told result ≡ read_of s.now }
 {
     if s.len() != SIZE {
         return Err(Refusal::Length);
@@ -48,22 +46,20 @@ fn read(s: &[u8]) -> Result<Sheet, Refusal>
     if is_spare_set(s) {
         return Err(Refusal::SpareByte);
     }
-    let sheet = sheet_of(s);
-    sheet.check()?;
-    Ok(sheet)
+    FairSheet::try_from(sheet_of(s))
 }
 
 fn refuse(rt: &impl Print, refusal: Refusal) {
     let mut out = [0; line::ROW_ROOM];
-    let end = report::add(
-        &mut out,
-        0,
+    let mut text = Lent::new(&mut out);
+    report::add(
+        &mut text,
         TextLine::Refusal {
             refusal,
             seconds: 0,
         },
     );
-    let _ = rt.write_all(&out[..end]);
+    let _ = rt.write_all(text.filled());
 }
 
 fn main(rt: HostRuntime) {

@@ -3,7 +3,6 @@
 #![tactic(auto)]
 
 ghost use Rattle.std.specs.Prelude.{◌≤◌, ◌≡◌, true};
-ghost use Rattle.sheet.specs.Sheet.{InRange};
 ghost use Rattle.codec.specs.Lent.{HasRoom};
 ghost use Rattle.refusals.specs.Refusals.{number_in};
 ghost use Rattle.record.specs.Record.{most_seconds};
@@ -18,7 +17,7 @@ use book::Book;
 use codec::Lent;
 use refusals::Refusal;
 use report::{Form, Kept, Plan, TextLine};
-use sheet::Sheet;
+use sheet::FairSheet;
 
 // Where a book stands between two of its blocks: `next` is the number of the block next in turn, 0 for the header. Before the header the plan
 // has no seconds, so that block 0 is the last one due; it never has more than a book may have.
@@ -59,9 +58,8 @@ impl Standing {
     ghost use Rattle.standing.specs.Stood.{stood};
 
     #[tactic(auto, unfolding(crate::specs::Standing::start))]
-    pub fn new(sheet: Sheet, form: Form) -> Standing
-        requires { InRange sheet }
-        ensures { stood result ≡ start sheet form }
+    pub fn new(sheet: FairSheet, form: Form) -> Standing
+        ensures { stood result ≡ start sheet.figures form }
     {
         Standing {
             plan: Plan {

@@ -4,14 +4,13 @@
 mod run;
 
 ghost use Rattle.std.specs.Prelude.{OnOk};
-ghost use Rattle.sheet.specs.Sheet.{InRange};
 ghost use Rattle.sending.specs.Session.{AllSent};
 ghost use Rattle.printed.specs.Printed.{printed};
 
 use report::Form;
 use run::Run;
 use sending::Failure;
-use sheet::Sheet;
+use sheet::FairSheet;
 use std::io;
 use std::io::{Read, Write};
 
@@ -19,18 +18,16 @@ use std::io::{Read, Write};
 pub fn send_book<R: Read, W: Write>(
     input: &mut R,
     output: &mut W,
-    sheet: Sheet,
+    sheet: FairSheet,
     form: Form,
 ) -> Result<(), Failure>
-    requires { InRange sheet }
-    ensures { OnOk result (AllSent (printed sheet form) (R.remaining input.old) (W.contents output.old) (W.contents output.new)) }
+    ensures { OnOk result (AllSent (printed sheet.figures form) (R.remaining input.old) (W.contents output.old) (W.contents output.new)) }
 {
     sending::run(&mut Run::new(sheet, form), input, output)
 }
 
 // Sends it to standard output.
-pub fn print_book<R: Read>(rt: &(impl Print + Eprint), input: &mut R, sheet: Sheet, form: Form)
-    requires { InRange sheet }
+pub fn print_book<R: Read>(rt: &(impl Print + Eprint), input: &mut R, sheet: FairSheet, form: Form)
 {
     if let Err(failure) = send_book(input, &mut io::writer(rt), sheet, form) {
         sending::say(rt, failure);

@@ -1,13 +1,12 @@
 // A book's run: its bytes are read where the last piece stood, taken, and their text is sent.
 ghost use Rattle.std.specs.Prelude.{◌≡◌};
-ghost use Rattle.sheet.specs.Sheet.{InRange};
 ghost use Rattle.pieces.specs.Pieces.{Reading as Place, unread};
 ghost use Rattle.stdio.specs.Rest.{rest_of};
 
 use pieces::{PIECE, PIECE_ROOM, Reading};
 use report::Form;
 use sending::{Failure, Session, receive, send};
-use sheet::Sheet;
+use sheet::FairSheet;
 use std::io::{Read, Write};
 use std::marker::Model;
 
@@ -28,9 +27,8 @@ impl Model for Run {
 
 impl Run {
     // Before the first byte, under a sheet whose figures are in range.
-    pub(crate) fn new(sheet: Sheet, form: Form) -> Run
-        requires { InRange sheet }
-        ensures { result ≡ unread sheet form }
+    pub(crate) fn new(sheet: FairSheet, form: Form) -> Run
+        ensures { result ≡ unread sheet.figures form }
     {
         Run {
             reading: Reading::new(sheet, form),

@@ -1,12 +1,13 @@
 -- A number for each rule in turn.
-use Rattle.std.proofs.Common.{◌≡◌, refl, sym, ap, ◌∙◌, Bool, true, false, List, [], ◌∷◌, ℕ, length, rules}
-use borrow.Author.Tests.{eq-eqb, ne_eqb}
-use Rattle.refusals.specs.Refusals.{Given, Refused, number_of, answer_by, told}
+use Rattle.std.proofs.Common.{eq-eqb, ne_eqb, ◌≡◌, refl, sym, ap, ◌∙◌, Bool, true, false, List, [], ◌∷◌, ℕ, length, Result, Ok, Err, IfOk}
+use Rattle.refusals.specs.declared.Refusal.{Refusal}
+use Rattle.refusals.specs.Refusals.{Given, number_of, answer_by, number_in}
 use Rattle.refusals.proofs.Laws.{number_positive, refused_by}
 use Rattle.numbers.specs.Rules.{refuse, first, differ}
+use Rattle.sheet.specs.declared.Sheet.{Sheet}
+use Rattle.sheet.specs.declared.fair.FairSheet.{FairSheet}
 use Rattle.sheet.specs.Sheet.{percent_out, range_out, fcr_reaction_out, afrr_reaction_out, sheet_number}
-use Rattle.sheet.proofs.Ranges.{in_range}
-use Rattle.reserve_sheet.specs.Form.{sheet_size, sheet_of, figure_out, spare_set, form_number, read_of}
+use Rattle.reserve_sheet.specs.Form.{sheet_size, sheet_of, figure_out, spare_set, form_number, figures_told, read_of}
 use Rattle.reserve_sheet.proofs.read.Goals as goal
 
 -- where the bytes are right, the number is the sheet's
@@ -26,31 +27,20 @@ of_figures s h e =
     go false false false true = refl
     go false false false false = refl
 
-pub returns-then-s-ne-SIZE-clause-is : goal.returns-then-s-ne-SIZE-clause-is
+pub returns-then-s-ne-SIZE : goal.returns-then-s-ne-SIZE
 unfolding read_of form_number
-returns-then-s-ne-SIZE-clause-is c = rw (ne_eqb (length c.args.s.now) sheet_size c.if-s-ne-SIZE.true)
+returns-then-s-ne-SIZE c = rw (ne_eqb (length c.args.s.now) sheet_size c.if-s-ne-SIZE.true)
 
-pub returns-then-is_spare_set-clause-is : goal.returns-then-is_spare_set-clause-is
+pub returns-then-is_spare_set : goal.returns-then-is_spare_set
 unfolding read_of form_number
-returns-then-is_spare_set-clause-is c = rw (eq-eqb (length c.args.s.now) sheet_size c.if-s-ne-SIZE.false, sym c.is_spare_set.ensures ∙ c.if-is_spare_set.true)
+returns-then-is_spare_set c = rw (eq-eqb (length c.args.s.now) sheet_size c.if-s-ne-SIZE.false, sym c.is_spare_set.ensures ∙ c.if-is_spare_set.true)
 
-pub returns-in_err-check-clause-is : goal.returns-in_err-check-clause-is
+-- what is said where the bytes are right
+said : (s : List ℕ) (sh : Sheet) (r : Result FairSheet Refusal) → sh ≡ sheet_of s → form_number s ≡ sheet_number (sheet_of s) → number_in r ≡ sheet_number sh → IfOk r (λ x. x.figures ≡ sh) → figures_told r ≡ read_of s
 unfolding read_of
-returns-in_err-check-clause-is c =
-    let s = c.args.s.now in
-    let e = c.in_err-check.field-0.0 in
-    let number : number_of e ≡ form_number s =
-    c.in_err-check.ensures ∙ ap sheet_number c.sheet_of-sheet.ensures ∙ sym (of_figures s c.if-s-ne-SIZE.false (sym c.is_spare_set.ensures ∙ c.if-is_spare_set.false)) in
-    let refused : told c.from_residual.result ≡ Refused (number_of e) = search rules in
-    refused ∙ sym (refused_by (sheet_of s) (number_positive e)) ∙ ap (λ n. answer_by n (sheet_of s)) number
+said s sh (Ok x) e f n k = let z : form_number s ≡ 0 = f ∙ ap sheet_number (sym e) ∙ sym n in rw z (ap Given (k ∙ e))
+said s sh (Err x) e f n k = let m : number_of x ≡ form_number s = n ∙ ap sheet_number e ∙ sym f in sym (refused_by (sheet_of s) (number_positive x)) ∙ ap (λ n. answer_by n (sheet_of s)) m
 
-pub returns-clause-is : goal.returns-clause-is
-unfolding read_of
-returns-clause-is c =
-    let s = c.args.s.now in
-    let number : form_number s ≡ 0 =
-    of_figures s c.if-s-ne-SIZE.false (sym c.is_spare_set.ensures ∙ c.if-is_spare_set.false) ∙ sym (c.in_ok-check.ensures ∙ ap sheet_number c.sheet_of-sheet.ensures) in
-    rw number (ap Given c.sheet_of-sheet.ensures)
-
-pub returns-clause-in_range : goal.returns-clause-in_range
-returns-clause-in_range c = in_range c.sheet_of-sheet.result (sym c.in_ok-check.ensures)
+pub returns : goal.returns
+returns c =
+    said c.args.s.now _ _ c.sheet_of.ensures (of_figures c.args.s.now c.if-s-ne-SIZE.false (sym c.is_spare_set.ensures ∙ c.if-is_spare_set.false)) c.try_from.ensures.0 c.try_from.ensures.1
