@@ -9,7 +9,6 @@ use Rattle.book.specs.declared.Book.{Book}
 use Rattle.book.specs.Cut.{bytes_back}
 use Rattle.book.specs.HandOver.{HandOver, Opened, hand_over_number, handed_over, hand_over_by, hand_over_in, HandedOver}
 use Rattle.tally.specs.Tally as tally
-use Rattle.tally.specs.Tally.{TallyWithin}
 use Rattle.line.specs.Line.{sum_text}
 use Rattle.line.specs.Widths.{row_room}
 use Rattle.report.specs.Kept.{Kept, keep, KeptReady}
@@ -21,9 +20,6 @@ use Rattle.cut_run.specs.Adding.{cut_room, CutAdds}
 
 -- ---- the handover
 
-no_counts : (n : ℕ) → TallyWithin n tally.zero
-no_counts n = search arith depth 9
-
 opens : (k : Book) {r : HandOver} → HandedOver k r → r.answer ≡ Opened → (hand_over_number k.unit.seconds ≡ 0) × (r.book ≡ handed_over k)
 unfolding hand_over_in
 opens k f e =
@@ -34,10 +30,6 @@ opens k f e =
 refuses_by : (k : Book) (m n : ℕ) → (hand_over_by m k).answer ≡ answer.Refused n → (m ≡ n) × ((hand_over_by m k).book ≡ k) × ((q : Kept) → q.book ≡ k → opened_by m q ≡ record { ran = record { text = sum_text q.book.sums; kept = q; verdict = Refused n }; handed = false })
 refuses_by k zero n e = let z : ◌≡◌ {A = ℕ} 0 1 = cc in absurd (omega arith)
 refuses_by k (suc m) n e = let z : suc m ≡ n = ap answer_number e in (z, refl, λ q b. rw z)
-
--- what is kept then is whole
-pub opened_ready : {k : Book} {r : HandOver} → HandedOver k r → KeptReady (keep r.book tally.zero)
-opened_ready f = record { book = f.ready; counts = no_counts _ }
 
 refused_same : (k : Book) {r : HandOver} {m : ℕ} → HandedOver k r → r.answer ≡ answer.Refused m → r.book ≡ k
 unfolding hand_over_in
