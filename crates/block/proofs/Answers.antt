@@ -1,6 +1,6 @@
 -- What an answer says of its number. Assumes nothing.
 use Rattle.std.proofs.Common.{◌≡◌, refl, ap, false, not, List, ℕ, zero, suc, eqb, eqb-true, eq-eqb}
-use borrow.Author.Tests.{not-false}
+use Rattle.std.proofs.lemmas.Bool.{not-false}
 use Rattle.numbers.specs.Rules.{differ}
 use Rattle.block.specs.Said.{values, answered}
 

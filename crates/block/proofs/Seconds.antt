@@ -1,9 +1,8 @@
 -- The seconds of a block from its bytes. Assumes nothing.
-use Rattle.std.proofs.Common.{◌≡◌, refl, sym, ap, ◌∙◌, ℕ, zero, suc, ◌+◌, ◌/◌, ◌-◌, ◌≤◌, List, ◌++◌, length, take, drop, Result, Ok, IfOk, arith}
+use Rattle.std.proofs.Common.{◌≡◌, refl, sym, ap, ◌∙◌, ℕ, zero, suc, ◌+◌, ◌/◌, ◌-◌, ◌≤◌, List, ◌++◌, length, take, drop, Result, Ok, IfOk, arith, take_at, drop_at}
 use Rattle.std.specs.Borrow.{Bor}
 use Rattle.std.specs.List.{flat_map}
 use Rattle.std.specs.Simd.{first_chunks}
-use lib.Seq.{take_at, drop_at}
 use Rattle.refusals.specs.declared.Refusal.{Refusal}
 use Rattle.block.specs.Bytes.{part}
 use Rattle.block.specs.Places.{per_block, second_size, second_at}

@@ -1,6 +1,6 @@
 -- What an accepted block's rules say: each as a plain fact, and back. Assumes nothing.
 use Rattle.std.proofs.Common.{◌≡◌, refl, ap, true, not, List, [], ◌∷◌, ℕ, ◌≤◌, ◌<◌, arith, length, get_or, ltb-false, ne_eqb, le-ltb}
-use borrow.Author.Tests.{eqb-false, not-false}
+use Rattle.std.proofs.lemmas.Bool.{eqb-false, not-false}
 use Rattle.codec.specs.Little.{u16_at, u32_at}
 use Rattle.record.specs.Record.{most_seconds, all_kinds}
 use Rattle.block.specs.Places.{block_size, check_at, name_at, version_at, version, spare_at, header_end, number_at, count_end, per_block, body_at, second_at}

@@ -1,6 +1,6 @@
 -- What a writer's number says of its arguments, and what it then leaves. Assumes nothing.
 use Rattle.std.proofs.Common.{◌≡◌, refl, ap, List, [], ℕ, zero, suc, ◌/◌, ◌%◌, ◌≤◌, ◌<◌, arith, ltb-false, ne_eqb, le-ltb}
-use borrow.Author.Tests.{eqb-false}
+use Rattle.std.proofs.lemmas.Bool.{eqb-false}
 use Rattle.record.specs.Record.{most_seconds, all_kinds}
 use Rattle.numbers.proofs.Rules.{none, no_number}
 use Rattle.block.specs.Places.{block_size, per_block, second_size}

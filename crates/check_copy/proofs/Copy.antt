@@ -1,9 +1,5 @@
 -- A block that the reader accepts is its own copy, one that it refuses ends the copy; so block after block. Assumes nothing.
-use mathlib.Core.Path.{◌≡◌, refl, sym, ap, ◌∙◌}
-use mathlib.Core.List.{List, [], ◌++◌}
-use Prim.Native.Nat.{ℕ, zero, suc, ◌≤◌}
-use native.Mathlib.Omega.{arith}
-use lib.ListN.{length}
+use Rattle.std.proofs.Common.{◌≡◌, refl, sym, ap, ◌∙◌, List, [], ◌++◌, ℕ, zero, suc, ◌≤◌, arith, length}
 use Rattle.codec.specs.Little.{Bytes}
 use Rattle.record.specs.Record.{most_seconds}
 use Rattle.std.specs.Prelude.{Result, Ok, Err, IsOk, Some}

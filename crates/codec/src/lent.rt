@@ -1,4 +1,5 @@
-// A lent buffer that fills from its front: what is put stands before `at`, where the next byte goes.
+// A lent buffer that fills from its front: what is put stands before `at`, where the next byte goes. How much room a function asks for stands in its
+// clause (`HasRoom`): each puts other bytes, and a type for each room would be no plainer.
 ghost use Rattle.std.specs.Prelude.{◌≡◌, ◌≤◌, [], ◌∷◌, length, take};
 ghost use Rattle.codec.specs.Little.{le2, le4};
 ghost use Rattle.codec.specs.Lent.{HasRoom, Grown};

@@ -1,10 +1,5 @@
 -- The claims of specs/Claims.antt. Assumes nothing.
-use mathlib.Core.Path.{◌≡◌, sym, ap, ◌∙◌}
-use mathlib.Core.Bool.{false}
-use mathlib.Core.List.{List, []}
-use Prim.Native.Nat.{ℕ, zero, suc, ◌-◌}
-use native.Mathlib.Omega.{arith}
-use lib.ListN.{take, drop}
+use Rattle.std.proofs.Common.{◌≡◌, sym, ap, ◌∙◌, false, List, [], ℕ, zero, suc, ◌-◌, arith, take, drop}
 use Rattle.sheet.specs.Sheet.{default_sheet}
 use Rattle.book.specs.declared.Book.{Book}
 use Rattle.book.specs.State.{fresh}

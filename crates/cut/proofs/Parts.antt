@@ -1,9 +1,5 @@
 -- A cut book's blocks in turn are its seconds in turn. Assumes nothing.
-use mathlib.Core.Path.{◌≡◌, refl, sym, ap, ◌∙◌}
-use mathlib.Core.Bool.{Bool}
-use mathlib.Core.List.{List, [], ◌∷◌, ◌++◌, append_assoc}
-use Prim.Native.Nat.{ℕ, zero, suc}
-use lib.ListN.{take, drop}
+use Rattle.std.proofs.Common.{◌≡◌, refl, sym, ap, ◌∙◌, Bool, List, [], ◌∷◌, ◌++◌, append_assoc, ℕ, zero, suc, take, drop}
 use Rattle.block.specs.Places.{block_size}
 use Rattle.block.specs.Block.{block_number, count_of, seconds_from}
 use Rattle.block.specs.Book.{Held, held_by, later_blocks}

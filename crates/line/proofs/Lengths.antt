@@ -1,7 +1,7 @@
 -- How long a number's text is, by its type's range: what the library knows of what it prints. Assumes nothing.
 use Rattle.std.proofs.Common.{ℕ, ◌^◌, ◌≤◌, ◌<◌, length, ℤ, SFits, w32, w64, arith}
 use Rattle.std.proofs.lemmas.Fmt.{length-decimal-le, length_signed_le}
-use lib.Signed.{nat_abs-le}
+use Rattle.std.specs.Int.Signed.{nat_abs-le}
 use Rattle.line.specs.Widths.{count_width, field_width, unsigned_width, sum_width}
 use Rattle.line.specs.Text.{digits, decimal, field, unsigned}
 use Rattle.line.proofs.Printed.{printed_is, signed_is}

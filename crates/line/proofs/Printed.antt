@@ -2,7 +2,7 @@
 use Rattle.std.proofs.Common.{◌≡◌, ℕ, suc, ◌^◌, ◌<◌, List, ◌∷◌, ℤ, pos, negsuc, nat_abs, SFits, w64, sym, ap, ◌∙◌, arith, lt-ltb, le-ltb}
 use Rattle.std.specs.Fmt.{decimal as printed, signed_decimal}
 use Rattle.std.proofs.lemmas.Fmt.{AppendsLastDigit, decimal_from_appends, length-decimal-le, length-decimal-le_succ}
-use lib.Signed.{nat_abs-le}
+use Rattle.std.specs.Int.Signed.{nat_abs-le}
 use Rattle.codec.specs.declared.lent.Lent.{Lent}
 use Rattle.codec.specs.Lent.{Grown}
 use Rattle.line.specs.Text.{digits_in, digits, decimal}

@@ -1,6 +1,6 @@
 -- The bytes of a book, block after block, give what is printed of it. Assumes nothing.
 use Rattle.std.proofs.Common.{◌≡◌, refl, sym, ap, ◌∙◌, Bool, true, false, List, [], ◌∷◌, ◌++◌, append_assoc, ℕ, zero, suc, ◌+◌, ◌≤◌, ◌<◌, add-one, arith, leb, length, take, drop, length-take, take-append-drop, take_all, leb-true, leb-false, le-leb, ne_eqb}
-use borrow.Author.Tests.{lt-leb}
+use Rattle.std.proofs.lemmas.Bool.{lt-leb}
 use Rattle.numbers.specs.Rules.{or_else, first}
 use Rattle.sheet.specs.declared.Sheet.{Sheet}
 use Rattle.sheet.specs.Sheet.{InRange}

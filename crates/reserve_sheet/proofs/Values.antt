@@ -1,5 +1,5 @@
 -- The values hold, by computing. Assumes nothing.
-use mathlib.Core.Path.{refl}
+use Rattle.std.proofs.Common.{refl}
 use Rattle.numbers.specs.Bounds.{outside}
 use Rattle.codec.specs.Little.{twos_complement}
 use Rattle.sheet.specs.Sheet.{default_sheet, percent_out, range_out, fcr_reaction_out, afrr_reaction_out, sheet_number}

@@ -2,7 +2,7 @@
 use Rattle.std.proofs.Common.{◌<◌, ◌≤◌, length, take, ◌∙◌, sym, subst, arith, length-take-le}
 use Rattle.std.specs.Io.KnownBytes.{Appends}
 use Rattle.std.proofs.KnownBytes.{Appends-nil}
-use lib.Seq.{take-append-le}
+use Rattle.std.proofs.lemmas.List.{take-append-le}
 use Rattle.codec.proofs.Puts.{front}
 use Rattle.pieces.specs.Pieces.{bytes_in}
 use Rattle.stdio.proofs.Rest.{whatever, goes_on, no_more}
