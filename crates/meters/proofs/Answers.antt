@@ -1,8 +1,9 @@
 -- What holds of every answer. Assumes nothing.
-use Rattle.std.proofs.Common.{◌≡◌, refl, sym, ap, ◌∙◌, subst, Bool, true, false, ◌&&◌, List, ◌++◌, ℕ, zero, suc, ◌*◌, ◌≤◌, ◌<◌, T, ℤ, pos, negsuc, neg_ℤ, length, take, take-take, length-take-le, Float}
+use Rattle.std.proofs.Common.{◌≡◌, refl, sym, ap, ◌∙◌, subst, Bool, true, false, ◌&&◌, List, ◌++◌, ℕ, zero, suc, ◌*◌, ◌≤◌, ◌<◌, T, ℤ, pos, negsuc, neg_ℤ, length, take, take-take, length-take-le}
 use Rattle.std.specs.Int.Signed.{le_z}
 use Rattle.std.proofs.Math.Seq.{take-append_seam}
-use Rattle.std.proofs.lemmas.Bool.{not-false}
+use lib.Ieee.{Float}
+use borrow.Author.Tests.{not-false}
 use Rattle.numbers.specs.Bounds.{Within}
 use Rattle.numbers.specs.Rules.{first}
 use Rattle.numbers.proofs.Fit.{within_neg}

@@ -1,9 +1,8 @@
 -- Subtracting 50, over the bits as whole numbers. Assumes nothing.
-use Rattle.std.proofs.Common.{◌≡◌, refl, sym, ap, ◌∙◌, subst, Bool, true, false, ℕ, zero, suc, ◌+◌, ◌-◌, ◌*◌, ◌^◌, ◌≤◌, ◌<◌, le_of_lt, zero-mul, mul-le-mul_right, arith, T, leb, ℤ, pos, neg_ℤ, ◌-ℤ◌, ◌*ℤ◌, leb-true, leb-false, le-leb, Float}
-use lib.Ieee.{of_fields, of_bits, fits}
-use Rattle.core.specs.Float.{binary32}
+use Rattle.std.proofs.Common.{◌≡◌, refl, sym, ap, ◌∙◌, subst, Bool, true, false, ℕ, zero, suc, ◌+◌, ◌-◌, ◌*◌, ◌^◌, ◌≤◌, ◌<◌, le_of_lt, zero-mul, mul-le-mul_right, arith, T, leb, ℤ, pos, neg_ℤ, ◌-ℤ◌, ◌*ℤ◌, leb-true, leb-false, le-leb}
+use lib.Ieee.{Float, binary32, of_fields, of_bits, fits}
 use lib.Ieee.Exact.{HasValue}
-use Rattle.std.proofs.lemmas.Bool.{lt-leb}
+use borrow.Author.Tests.{lt-leb}
 use Rattle.numbers.proofs.Difference.{less_up, less_down, sub_mul}
 use Rattle.meters.specs.declared.Reading.TheVariants.{Frequency, Deviation}
 use Rattle.meters.specs.Binary32.{bits_of, is_negative, field_of, digits_of, size_by, size_of, signed, finite_bits, exact_bits, exact, hertz, in_mhz}

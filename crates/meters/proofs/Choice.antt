@@ -1,7 +1,7 @@
 -- Laws of choosing. Assumes nothing.
 use Rattle.std.proofs.Common.{◌≡◌, refl, sym, ap, ◌∙◌, Bool, true, false, not, cond, ◌&&◌, ◌||◌, List, [], ◌∷◌, ℕ, ◌≤◌, ◌<◌, fold, arith, eqb, ltb, ltb-false, ne_eqb, le-ltb, pos}
 use Rattle.std.specs.Int.Signed.{lt_z}
-use Rattle.std.proofs.lemmas.Bool.{eqb-false}
+use borrow.Author.Tests.{eqb-false}
 use Rattle.meters.specs.declared.Meter.{Meter}
 use Rattle.numbers.proofs.Rules.{both_true}
 use Rattle.numbers.proofs.Test.{tests, or_no, or_false}

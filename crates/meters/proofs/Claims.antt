@@ -1,7 +1,6 @@
 -- The claims hold. Assumes nothing.
 use Rattle.std.proofs.Common.{take}
-use lib.Ieee.{of_bits}
-use Rattle.core.specs.Float.{binary32}
+use lib.Ieee.{binary32, of_bits}
 use lib.Ieee.Fits.{sub-fits}
 use Rattle.meters.specs.Meters.{bits50}
 use Rattle.meters.specs.Claims.{Claims}

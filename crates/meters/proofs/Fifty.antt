@@ -1,11 +1,10 @@
 -- "subtracting 50 loses nothing anywhere in that range". From 45 to 55 every binary32 has the field 132, so it is a whole number k of 2 ^ 131 steps, that
 -- is of 2 ^ -18 Hz, with k of 24 digits; 50 is 50 * 2 ^ 18 of them. The difference is then a whole number of them with fewer digits than the format
 -- keeps, and `round` changes nothing. Assumes nothing.
-use Rattle.std.proofs.Common.{◌≡◌, refl, sym, ap, ◌∙◌, subst, ℕ, zero, suc, ◌+◌, ◌-◌, ◌*◌, ◌^◌, ◌≤◌, ◌<◌, le_trans, le_of_eq, le_of_lt, not-le_of_lt, lt_of_le_of_lt, mul-one, mul_assoc, mul_right_comm, mul-le-mul, mod-lt, lt_of_mul-lt-mul_right, lt_of_lt_of_le, mul-pos, mul-lt-mul_of_pos_right, le_of_mul-le-mul_right, mul-le-mul_right, arith, Bool, true, false, cond, ◌&&◌, T, ltb, lit<, lit≤, ℤ, pos, neg_ℤ, ◌-ℤ◌, ◌≤ℤ◌, pow_pos, pow_mono, ltb-true, ltb-false, leb-true, Float, sum}
+use Rattle.std.proofs.Common.{◌≡◌, refl, sym, ap, ◌∙◌, subst, ℕ, zero, suc, ◌+◌, ◌-◌, ◌*◌, ◌^◌, ◌≤◌, ◌<◌, le_trans, le_of_eq, le_of_lt, not-le_of_lt, lt_of_le_of_lt, mul-one, mul_assoc, mul_right_comm, mul-le-mul, mod-lt, lt_of_mul-lt-mul_right, lt_of_lt_of_le, mul-pos, mul-lt-mul_of_pos_right, le_of_mul-le-mul_right, mul-le-mul_right, arith, Bool, true, false, cond, ◌&&◌, T, ltb, lit<, lit≤, ℤ, pos, neg_ℤ, ◌-ℤ◌, ◌≤ℤ◌, pow_pos, pow_mono, ltb-true, ltb-false, leb-true}
 use Rattle.std.specs.Int.Signed.{le_z}
 use Rattle.std.proofs.Math.Nat.{eq_of_mul-eq-mul_right}
-use lib.Ieee.{up, down, round, sub, of_bits, fits}
-use Rattle.core.specs.Float.{nan, inf, fin, binary32}
+use lib.Ieee.{Float, nan, inf, fin, binary32, up, down, round, sum, sub, of_bits, fits}
 use lib.Ieee.Fits.{down_pos, sub-fits}
 use lib.Ieee.Exact.{HasValue, round_exact}
 use lib.Ieee.Bits.{is_true}

@@ -1,8 +1,7 @@
 -- The code's tests of a reading and of an accuracy are the definitions'. Assumes nothing.
-use Rattle.std.proofs.Common.{◌≡◌, refl, sym, ap, ◌∙◌, subst, Bool, true, false, ◌&&◌, T, pos, neg_ℤ, Float, to_bits}
+use Rattle.std.proofs.Common.{◌≡◌, refl, sym, ap, ◌∙◌, subst, Bool, true, false, ◌&&◌, T, pos, neg_ℤ}
 use Rattle.std.specs.Int.Signed.{le_z, lt_z}
-use lib.Ieee.{of_bits, neg, lt, le, fits}
-use Rattle.core.specs.Float.{nan, inf, fin, binary32}
+use lib.Ieee.{Float, nan, inf, fin, binary32, of_bits, to_bits, neg, lt, le, fits}
 use lib.Ieee.Bits.{of_bits-fits}
 use lib.Ieee.Scale as scale
 use Rattle.std.specs.Float.{float_is_finite}

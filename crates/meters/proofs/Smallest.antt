@@ -1,6 +1,7 @@
 -- The meter that counts is the first of those with the smallest figure. Assumes nothing.
-use Rattle.std.proofs.Common.{◌≡◌, refl, sym, ap, ◌∙◌, subst, ◌⊎◌, inl, inr, Bool, true, false, not, ◌||◌, List, [], ◌∷◌, arith, T, ℤ, ◌≤ℤ◌, ◌<ℤ◌, Float}
-use Rattle.std.specs.Int.Signed.{≤ℤ_refl, lt_z_yes, lt_z_no}
+use Rattle.std.proofs.Common.{◌≡◌, refl, sym, ap, ◌∙◌, subst, ◌⊎◌, inl, inr, Bool, true, false, not, ◌||◌, List, [], ◌∷◌, arith, T, ℤ, ◌≤ℤ◌, ◌<ℤ◌}
+use lib.Ieee.{Float}
+use lib.Signed.{≤ℤ_refl, lt_z_yes, lt_z_no}
 use Rattle.numbers.proofs.Parts.{reads, shows}
 use Rattle.meters.specs.declared.Meter.{Meter}
 use Rattle.meters.specs.Binary32.{exact}

@@ -1,7 +1,7 @@
 -- The slices are compared byte by byte.
-use Rattle.std.proofs.Common.{◌≡◌, refl, sym, ◌∙◌, Bool, true, false, not, ◌&&◌, ◌||◌, List, [], ◌∷◌, ℕ, ◌+◌, ◌*◌, ◌<◌, eqb, lit<, length, get_or, take, drop, arith, drop-cons, eq-eqb, ne_eqb, eqb-true}
-use Rattle.core.specs.Cmp.Lexicographic.{pointwise}
-use Rattle.std.proofs.lemmas.Bool.{eqb-false}
+use Rattle.std.proofs.Common.{◌≡◌, refl, sym, ◌∙◌, Bool, true, false, not, ◌&&◌, ◌||◌, List, [], ◌∷◌, ℕ, ◌+◌, ◌*◌, ◌<◌, eqb, lit<, length, get_or, take, drop, arith, drop-cons}
+use lib.Pointwise.{pointwise}
+use borrow.Author.Tests.{eq-eqb, ne_eqb, eqb-true, eqb-false}
 use Rattle.numbers.proofs.Test.{or_first, or_second}
 use Rattle.codec.specs.Little.{u32_at}
 use Rattle.reserve_sheet.specs.Form.{sheet_size, spare_set}

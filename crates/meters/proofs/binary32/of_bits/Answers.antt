@@ -1,8 +1,7 @@
 -- The bits of a NaN are those above an infinity's.
-use Rattle.std.proofs.Common.{◌≡◌, true, refl, sym, ◌∙◌, arith, subst, T, ◌%◌, ◌^◌, lt-ltb, Float, is_nan}
+use Rattle.std.proofs.Common.{◌≡◌, true, refl, sym, ◌∙◌, arith, subst, T, ◌%◌, ◌^◌, lt-ltb}
 use Rattle.std.proofs.lemmas.Float.{not_nan_f32_bits}
-use lib.Ieee.{of_bits, div}
-use Rattle.core.specs.Float.{nan, inf, fin, binary32}
+use lib.Ieee.{Float, nan, inf, fin, binary32, of_bits, is_nan, div}
 use lib.Ieee.Bits.{nan_bits_is, nan_bits_above}
 use Rattle.meters.proofs.binary32.of_bits.Goals as goal
 

@@ -1,7 +1,8 @@
 -- The size in whole mHz, with the sign of the number.
-use Rattle.std.proofs.Common.{◌≡◌, ℕ, ◌*◌, ◌%◌, ◌^◌, ◌≤◌, ◌<◌, Bool, true, false, ◌&&◌, ℤ, pos, neg_ℤ, arith, sym, ap, ◌∙◌, subst, mod-lt, pow_pos, le-leb, Float}
+use Rattle.std.proofs.Common.{◌≡◌, ℕ, ◌*◌, ◌%◌, ◌^◌, ◌≤◌, ◌<◌, Bool, true, false, ◌&&◌, ℤ, pos, neg_ℤ, arith, sym, ap, ◌∙◌, subst, mod-lt, pow_pos, le-leb}
 use Rattle.std.specs.Int.Signed.{le_z}
-use Rattle.std.proofs.lemmas.Bool.{lt-leb}
+use lib.Ieee.{Float}
+use borrow.Author.Tests.{lt-leb}
 use Rattle.std.proofs.lemmas.Float.{T_from_true}
 use Rattle.numbers.proofs.Read.{same}
 use Rattle.numbers.proofs.Rules.{both_true}
