@@ -109,6 +109,7 @@ impl Reading {
         requires { (length bytes.now ≤ piece_size) × HasRoom piece_room text.old }
         ensures { Chunked piece_room self.old bytes.now text.old text.new self.new }
     {
+        // The proof learns here that these bytes are short of a block.
         let _ = &self.part;
         let mut rest = bytes;
         while !rest.is_empty() {
