@@ -15,7 +15,8 @@ use sheet::Sheet;
 use standing::Standing;
 use std::marker::Model;
 
-// The most bytes that are taken at once, and the room that their text asks for, three lines a second.
+// The most bytes that are taken at once, and the room that their text asks for, three lines a second. That no more come is a clause of `take` and of the
+// two that it calls: a piece is part of what a reader read, and a type of its own would be made and undone in that one call.
 pub const PIECE: usize = PIECE_BLOCKS * block::SIZE;
 
 pub const PIECE_ROOM: usize = (PIECE_BLOCKS + 2) * 3 * line::ROW_ROOM * block::PER_BLOCK;
