@@ -10,11 +10,10 @@ use Rattle.codec.specs.declared.lent.Lent.{Lent}
 use Rattle.codec.specs.Lent.{Grown}
 use Rattle.codec.proofs.Lents.{both, loosen}
 use Rattle.block.specs.Places.{block_size, check_at, version, header_end, count_end, body_at, second_size, per_block}
-use Rattle.block.specs.Bytes.{part, zeros}
+use Rattle.block.specs.Bytes.{zeros}
 use Rattle.block.specs.Check.{check_of}
 use Rattle.block.specs.Header.{name}
 use Rattle.block.specs.Layout.{closed, header_front, count_in, block_front}
-use Rattle.block.proofs.Parts.{check_of_front}
 
 -- ---- the fields of a block up to its check, each put after the one before
 

@@ -1,67 +1,94 @@
--- The seconds of an accepted block from their bytes. Assumes nothing.
-use Rattle.std.proofs.Common.{◌≡◌, refl, sym, ap, ◌∙◌, ℕ, zero, suc, ◌+◌, ◌*◌, ◌/◌, ◌-◌, ◌≤◌, ◌<◌, List, [], ◌∷◌, ◌++◌, length, length-append, take, drop, Result, Ok, IfOk, arith}
+-- The seconds of a block from its bytes. Assumes nothing.
+use Rattle.std.proofs.Common.{◌≡◌, refl, sym, ap, ◌∙◌, ℕ, zero, suc, ◌+◌, ◌/◌, ◌-◌, ◌≤◌, List, ◌++◌, length, take, drop, Result, Ok, IfOk, arith}
 use Rattle.std.specs.Borrow.{Bor}
+use Rattle.std.specs.List.{flat_map}
+use Rattle.std.specs.Simd.{first_chunks}
 use lib.Seq.{take_at, drop_at}
 use Rattle.refusals.specs.declared.Refusal.{Refusal}
 use Rattle.block.specs.Bytes.{part}
 use Rattle.block.specs.Places.{per_block, second_size, second_at}
-use Rattle.block.specs.Block.{count_of, block_number, block_of, block_says, count_told, second_of, seconds_from, first_seconds, all_seconds}
+use Rattle.block.specs.Block.{count_of, block_number, block_of, block_says, count_told, second_of, seconds_from}
 use Rattle.block.specs.Layout.{body_of}
-use Rattle.block.proofs.Answers.{accepted}
-use Rattle.block.proofs.Parts.{part_split, part_length}
-use Rattle.block.proofs.Taken.{taken_block, due_most}
+use Rattle.block.proofs.Parts.{part_none, part_split, part_length}
+use Rattle.block.proofs.Taken.{block_zero, block_fields, due_most}
 
-seconds_at : (s : List ℕ) (i n : ℕ) → second_at (i + n) ≤ length s → first_seconds n (part s (second_at i) (second_at (i + n))) ≡ seconds_from s i n
-unfolding first_seconds seconds_from
-seconds_at s i zero h = refl
-seconds_at s i (suc n) h =
-    let one = part s (second_at i) (second_at (suc i)) in
-    let rest = part s (second_at (suc i)) (second_at (i + suc n)) in
-    let split : part s (second_at i) (second_at (i + suc n)) ≡ one ++ rest = part_split s (second_at i) (second_at (suc i)) (second_at (i + suc n)) (omega arith) (omega arith) in
-    let size : second_at (suc i) - second_at i ≡ second_size = omega arith in
-    let len : length one ≡ second_size = part_length s (second_at i) (second_at (suc i)) (omega arith) ∙ size in
-    let first : one ≡ second_of s i = ap (λ (k : ℕ). take k (drop (second_at i) s)) size in
-    let last : i + suc n ≡ suc i + n = omega arith in
-    rw (split, take_at one rest second_size len, drop_at one rest second_size len, last, seconds_at s (suc i) n (omega arith), first)
+-- ---- from second i on
 
--- how many bytes the body of an accepted block has, and its seconds
-pub body_length : (s : List ℕ) (seconds n : ℕ) → block_number s seconds n ≡ 0 → (length (body_of s (count_of s)) ≡ second_size * count_of s) × (count_of s ≤ per_block)
-body_length s seconds n e =
-    let t = taken_block s seconds n e in
-    let few : count_of s ≤ per_block = omega (arith, t.count, due_most seconds n) in
-    (part_length s (second_at 0) (second_at (count_of s)) (omega (arith, t.len)) ∙ (omega arith), few)
+module _ (s : List ℕ) (i n : ℕ) (h : second_at (i + suc n) ≤ length s) where
+  abbrev rest : List ℕ
+  rest = part s (second_at (suc i)) (second_at (suc i + n))
 
-pub body_seconds : (s : List ℕ) (seconds n : ℕ) → block_number s seconds n ≡ 0 → all_seconds (body_of s (count_of s)) ≡ seconds_from s 0 (count_of s)
-body_seconds s seconds n e =
-    let f = body_length s seconds n e in
-    let count : length (body_of s (count_of s)) / second_size ≡ count_of s = omega (arith, f.0) in
-    let all : 0 + count_of s ≡ count_of s = omega arith in
-    let each : first_seconds (count_of s) (part s (second_at 0) (second_at (0 + count_of s))) ≡ seconds_from s 0 (count_of s) = seconds_at s 0 (count_of s) (omega (arith, (taken_block s seconds n e).len, f.1)) in
-    rw count (rw all at each)
+  size : second_at (suc i) - second_at i ≡ second_size
+  size = omega arith
 
--- one second more, and no second
-pub one_more : (x rest : List ℕ) → length x ≡ second_size → all_seconds (x ++ rest) ≡ x ∷ all_seconds rest
-unfolding first_seconds
-one_more x rest h =
-    let len = length-append x rest in
-    let count : length (x ++ rest) / second_size ≡ suc (length rest / second_size) = omega (arith, h) in
-    rw (count, take_at x rest second_size h, drop_at x rest second_size h)
+  first : part s (second_at i) (second_at (suc i)) ≡ second_of s i
+  first = ap (λ (k : ℕ). take k (drop (second_at i) s)) size
 
-pub no_more : (s : List ℕ) → length s < second_size → all_seconds s ≡ []
-unfolding first_seconds
-no_more s h =
-    let none : length s / second_size ≡ 0 = omega arith in
-    rw none
+  pub first_length : length (second_of s i) ≡ second_size
+  first_length = ap length (sym first) ∙ part_length s (second_at i) (second_at (suc i)) (omega arith) ∙ size
 
--- what the reader's answer says of the bytes `body`
-pub record Seconds (s : List ℕ) (seconds n : ℕ) (body : List ℕ) : Type 0 where
+  pub split : part s (second_at i) (second_at (i + suc n)) ≡ second_of s i ++ rest
+  split =
+      let last : i + suc n ≡ suc i + n = omega arith in
+      rw last (part_split s (second_at i) (second_at (suc i)) (second_at (suc i + n)) (omega arith) (omega arith) ∙ ap (λ (l : List ℕ). l ++ rest) first)
+
+  pub left : second_at (suc i + n) ≤ length s
+  left = omega (arith, h)
+
+chunks_at : (s : List ℕ) (i n : ℕ) → second_at (i + n) ≤ length s → first_chunks second_size n (part s (second_at i) (second_at (i + n))) ≡ seconds_from s i n
+unfolding seconds_from
+chunks_at s i zero h = refl
+chunks_at s i (suc n) h =
+    let len = first_length s i n h in
+    rw (split s i n h, take_at (second_of s i) (rest s i n h) second_size len, drop_at (second_of s i) (rest s i n h) second_size len, chunks_at s (suc i) n (left s i n h)) refl
+
+bytes_at : (s : List ℕ) (i n : ℕ) → second_at (i + n) ≤ length s → flat_map (λ (l : List ℕ). l) (seconds_from s i n) ≡ part s (second_at i) (second_at (i + n))
+unfolding seconds_from
+bytes_at s i zero h = sym (part_none s (second_at i) (second_at (i + 0)) (omega arith))
+bytes_at s i (suc n) h = ap (λ (l : List ℕ). second_of s i ++ l) (bytes_at s (suc i) n (left s i n h)) ∙ sym (split s i n h)
+
+count_at : (s : List ℕ) (i n : ℕ) → length (seconds_from s i n) ≡ n
+unfolding seconds_from
+count_at s i zero = refl
+count_at s i (suc n) = ap suc (count_at s (suc i) n)
+
+-- ---- the k seconds of a block
+
+module _ (s : List ℕ) (k : ℕ) (h : second_at k ≤ length s) where
+  all : 0 + k ≡ k
+  all = omega arith
+
+  count : length (body_of s k) / second_size ≡ k
+  count = let len = part_length s (second_at 0) (second_at k) h in omega arith
+
+  pub chunks : first_chunks second_size (length (body_of s k) / second_size) (body_of s k) ≡ seconds_from s 0 k
+  chunks =
+      let whole : second_at (0 + k) ≤ length s = omega (arith, h) in
+      let each : first_chunks second_size k (part s (second_at 0) (second_at (0 + k))) ≡ seconds_from s 0 k = chunks_at s 0 k whole in
+      rw count (rw all at each)
+
+  pub bytes : flat_map (λ (l : List ℕ). l) (seconds_from s 0 k) ≡ body_of s k
+  bytes =
+      let whole : second_at (0 + k) ≤ length s = omega (arith, h) in
+      let each : flat_map (λ (l : List ℕ). l) (seconds_from s 0 k) ≡ part s (second_at 0) (second_at (0 + k)) = bytes_at s 0 k whole in
+      rw all at each
+
+-- ---- what the reader answers
+
+pub record Seconds (s : List ℕ) (seconds n : ℕ) (l : List (List ℕ)) : Type 0 where
   pub number : block_number s seconds n ≡ 0
-  pub few : length body ≤ second_size * per_block
-  pub each : all_seconds body ≡ seconds_from s 0 (count_of s)
+  pub few : length l ≤ per_block
+  pub is : l ≡ seconds_from s 0 (count_of s)
+  pub joined : flat_map (λ (x : List ℕ). x) l ≡ body_of s (count_of s)
 
-pub read_seconds : (s : List ℕ) (seconds n : ℕ) {r : Result (Bor (List ℕ)) Refusal} {body : Bor (List ℕ)} → r ≡ Ok body → block_says (count_told r) ≡ block_of s seconds n → IfOk r (λ b. b.now ≡ body_of s (count_of s)) → Seconds s seconds n body.now
-read_seconds s seconds n {r} {body} is says bytes =
-    let number = (accepted _ _ _ (sym says ∙ ap (λ (q : Result (Bor (List ℕ)) Refusal). block_says (count_told q)) is)).0 in
-    let same : body.now ≡ body_of s (count_of s) = rw is at bytes in
-    let size = body_length s seconds n number in
-    rw same (record { number = number; few = omega (arith, size.0, size.1); each = body_seconds s seconds n number })
+pub read_seconds : (s : List ℕ) (seconds n : ℕ) {r : Result (Bor (List (List ℕ))) Refusal} {l : Bor (List (List ℕ))} → r ≡ Ok l → block_says (count_told r) ≡ block_of s seconds n → IfOk r (λ b. b.now ≡ seconds_from s 0 (count_of s)) → Seconds s seconds n l.now
+read_seconds s seconds n {l = l} is says gives =
+    let f = block_fields s seconds n (length l.now) (sym says ∙ ap (λ (q : Result (Bor (List (List ℕ))) Refusal). block_says (count_told q)) is) in
+    let same : l.now ≡ seconds_from s 0 (count_of s) = rw is at gives in
+    let few : count_of s ≤ per_block = omega (arith, f.0.count, due_most seconds n) in
+    record {
+      number = block_zero s seconds n f.0;
+      few = omega (arith, f.1, few);
+      is = same;
+      joined = rw same (bytes s (count_of s) (omega (arith, f.0.len, few)));
+    }

@@ -96,10 +96,3 @@ block_fields s seconds n k e =
 
 pub due_most : (seconds n : ℕ) → due_in seconds n ≤ per_block
 due_most seconds n = omega arith
-
--- what a caller needs to take the seconds out
-pub whole_block : (s : List ℕ) (seconds n k : ℕ) → block_of s seconds n ≡ values (k ∷ []) → (length s ≡ block_size) × (k ≤ per_block)
-whole_block s seconds n k e =
-    let f = block_fields s seconds n k e in
-    let h = due_most seconds n in
-    (f.0.len, omega (arith, f.1, f.0.count))

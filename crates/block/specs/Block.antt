@@ -1,6 +1,6 @@
 -- "Others: 0-3 block number from 1, 4 seconds in it (4, fewer only in the last), from 16 on 108 bytes a second: U, A, B. All else is 0."
 -- (01, "Blocks and text")
-use Rattle.std.specs.Prelude.{ℕ, zero, suc, ◌*◌, ◌-◌, ◌/◌, min, not, List, [], ◌∷◌, length, get_or, take, drop, eqb, Result, Ok, Err}
+use Rattle.std.specs.Prelude.{ℕ, zero, suc, ◌*◌, ◌-◌, min, not, List, [], ◌∷◌, length, get_or, take, drop, eqb, Result, Ok, Err}
 use Rattle.std.specs.Borrow.{Bor}
 use Rattle.refusals.specs.declared.Refusal.{Refusal}
 use Rattle.refusals.specs.Refusals.{number_of}
@@ -52,15 +52,7 @@ unfoldable pub seconds_from : List ℕ → ℕ → ℕ → List (List ℕ)
 seconds_from s i zero = []
 seconds_from s i (suc n) = second_of s i ∷ seconds_from s (suc i) n
 
--- the first n seconds of the bytes s, and all whole ones
-unfoldable pub first_seconds : ℕ → List ℕ → List (List ℕ)
-first_seconds zero s = []
-first_seconds (suc n) s = take second_size s ∷ first_seconds n (drop second_size s)
-
-abbrev pub all_seconds : List ℕ → List (List ℕ)
-all_seconds s = first_seconds (length s / second_size) s
-
--- how many seconds a block has, where their bytes are answered
-abbrev pub count_told : Result (Bor (List ℕ)) Refusal → Result ℕ Refusal
-count_told (Ok body) = Ok (length body.now / second_size)
+-- how many seconds a block has, where they are answered
+abbrev pub count_told : Result (Bor (List (List ℕ))) Refusal → Result ℕ Refusal
+count_told (Ok seconds) = Ok (length seconds.now)
 count_told (Err e) = Err e

@@ -2,8 +2,7 @@
 ghost use Rattle.std.specs.Prelude.{◌≡◌, ◌≤◌, ◌<◌, IfOk};
 ghost use Rattle.record.specs.Record.{most_seconds};
 ghost use Rattle.block.specs.Places.{per_block};
-ghost use Rattle.block.specs.Block.{due_in, count_of, block_of, block_says, count_told};
-ghost use Rattle.block.specs.Layout.{body_of};
+ghost use Rattle.block.specs.Block.{due_in, count_of, block_of, block_says, count_told, seconds_from};
 ghost use Rattle.block.specs.Book.{last_block};
 
 use crate::bytes::{check_of, is_zero};
@@ -42,12 +41,12 @@ fn due(seconds: u32, n: u32) -> usize
     left.min(PER_BLOCK)
 }
 
-// The bytes of block n's seconds, a part of the caller's slice, read with the header's seconds and n, the number next in turn; or the first rule
-// that the block breaks.
-#[tactic(auto, using(std::proofs::lemmas::Bool::Decides::nat_tests), unfolding(crate::specs::Block::block_number))]
-pub fn read_block(s: &[u8], seconds: u32, n: u32) -> Result<&[u8], Refusal>
+// The seconds of block n, a part of the caller's slice, read with the header's seconds and n, the number next in turn; or the first rule that the
+// block breaks.
+#[tactic(auto, using(std::proofs::lemmas::Bool::Decides::nat_tests, crate::proofs::Seconds::chunks), unfolding(crate::specs::Block::block_number))]
+pub fn read_block(s: &[u8], seconds: u32, n: u32) -> Result<&[[u8; SECOND]], Refusal>
     ensures count { block_says (count_told result) ≡ block_of s.now seconds n }
-    ensures bytes { IfOk result (λ body. body.now ≡ body_of s.now (count_of s.now)) }
+    ensures each { IfOk result (λ seconds. seconds.now ≡ seconds_from s.now 0 (count_of s.now)) }
 {
     if s.len() != SIZE {
         return Err(Refusal::Length);
@@ -69,5 +68,6 @@ pub fn read_block(s: &[u8], seconds: u32, n: u32) -> Result<&[u8], Refusal>
     if !is_zero(&s[COUNT_END..BODY_AT]) || !is_zero(&s[end..CHECK_AT]) {
         return Err(Refusal::SpareByte);
     }
-    Ok(&s[BODY_AT..end])
+    let (seconds, _) = s[BODY_AT..end].as_chunks();
+    Ok(seconds)
 }

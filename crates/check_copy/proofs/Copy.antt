@@ -7,18 +7,19 @@ use lib.ListN.{length}
 use Rattle.codec.specs.Little.{Bytes}
 use Rattle.record.specs.Record.{most_seconds}
 use Rattle.std.specs.Prelude.{Result, Ok, Err, IsOk, Some}
+use Rattle.std.specs.Borrow.{Bor}
 use Rattle.std.specs.Result.{result_ok}
 use Rattle.refusals.specs.declared.Refusal.{Refusal}
 use Rattle.refusals.specs.Refusals.{number_of}
 use Rattle.block.specs.declared.Header.{Header}
-use Rattle.block.specs.Said.{values, refused}
-use Rattle.block.specs.Layout.{BlockLayout}
+use Rattle.block.specs.Said.{Said, values, refused}
+use Rattle.block.specs.Layout.{BlockLayout, body_of}
 use Rattle.block.proofs.Claims as read
-use Rattle.block.specs.Places.{block_size, per_block}
+use Rattle.block.specs.Places.{block_size}
 use Rattle.block.specs.Header.{owner_of, seconds_of, header_number, header_of, header_says}
-use Rattle.block.specs.Block.{count_of, block_number, block_of, block_says}
-use Rattle.block.specs.Writing.{Outcome, written_says, outcome_by}
-use Rattle.block.proofs.Taken.{TakenHeader, header_fields, whole_block}
+use Rattle.block.specs.Block.{count_of, block_number, block_of, block_says, count_told}
+use Rattle.block.specs.Writing.{Outcome, written_says, outcome_by, block_written}
+use Rattle.block.proofs.Taken.{TakenHeader, header_fields}
 use Rattle.block.proofs.WriterClaims.{claims}
 use Rattle.check_copy.specs.Copy.{header_copy, block_copy, sent}
 
@@ -48,10 +49,6 @@ block_ends b s rest t n e = rw e refl
 
 -- ---- from the reader's and the writer's answers
 
--- what a caller needs to take the seconds out
-pub whole : (s : List ℕ) (t n : ℕ) (r : Result ℕ Refusal) (k : ℕ) → r ≡ Ok k → block_says r ≡ block_of s t n → (length s ≡ block_size) × (k ≤ per_block)
-whole s t n r k is says = whole_block s t n k (sym says ∙ ap block_says is)
-
 pub few : (b s x : List ℕ) (r : Result Header Refusal) (h : Header) → result_ok r ≡ Some h → ◌≡◌ {A = Outcome} (record { said = header_says r; buffer = x }) (header_copy b s) → h.seconds ≤ most_seconds
 few b s x (Ok y) h is e =
     let f = header_fields s y.owner y.seconds (sym (ap (λ (o : Outcome). o.said) e)) in
@@ -68,5 +65,12 @@ done b s (Err m) (suc n) e z = cc
 pub read_fields : (s : List ℕ) (r : Result Header Refusal) (h : Header) → r ≡ Ok h → header_says r ≡ header_of s → TakenHeader s × (h.owner ≡ owner_of s) × (h.seconds ≡ seconds_of s)
 read_fields s r h is says = header_fields s h.owner h.seconds (sym says ∙ ap header_says is)
 
-pub read_layout : (s : List ℕ) (t n k : ℕ) (r : Result ℕ Refusal) → Bytes s → r ≡ Ok k → block_says r ≡ block_of s t n → BlockLayout s t n k
-read_layout s t n k r bytes is says = (read.claims).block_taken s t n k bytes (sym says ∙ ap block_says is)
+pub read_layout : (s : List ℕ) (t n : ℕ) {r : Result (Bor (List (List ℕ))) Refusal} {l : Bor (List (List ℕ))} → Bytes s → r ≡ Ok l → block_says (count_told r) ≡ block_of s t n → BlockLayout s t n (length l.now)
+read_layout s t n {l = l} bytes is says =
+    (read.claims).block_taken s t n (length l.now) bytes (sym says ∙ ap (λ (q : Result (Bor (List (List ℕ))) Refusal). block_says (count_told q)) is)
+
+-- the bytes x of an accepted block's seconds were written
+pub copied_block : (b s x : List ℕ) (t n : ℕ) {e : List ℕ} {q : Said} (w : Result (Unit {0}) Refusal) → q ≡ block_of s t n → block_number s t n ≡ 0 → x ≡ body_of s (count_of s) → ◌≡◌ {A = Outcome} (record { said = written_says w; buffer = e }) (block_written b n x) → ◌≡◌ {A = Outcome} (record { said = q; buffer = e }) (block_copy b s t n)
+copied_block b s x t n w says none is wrote =
+    let buffer = ap (λ (o : Outcome). o.buffer) (rw is at wrote) in
+    rw (says, buffer, none) refl

@@ -1,9 +1,5 @@
 -- What the header's reader answered. Assumes nothing.
-use mathlib.Core.Path.{◌≡◌, sym, ap, ◌∙◌}
-use mathlib.Core.List.{List}
-use Prim.Native.Nat.{ℕ}
-use native.Mathlib.Omega.{arith}
-use Rattle.std.proofs.Common.{Result, Ok}
+use Rattle.std.proofs.Common.{Result, Ok, ◌≡◌, sym, ap, ◌∙◌, List, ℕ, arith}
 use Rattle.refusals.specs.declared.Refusal.{Refusal}
 use Rattle.refusals.specs.Refusals.{Given}
 use Rattle.block.specs.declared.Header.{Header}

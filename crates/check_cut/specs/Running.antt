@@ -9,7 +9,8 @@ use Rattle.tally.specs.Tally as tally
 use Rattle.block.specs.Header.{header_number}
 use Rattle.report.specs.declared.run.Plan.{Plan}
 use Rattle.report.specs.Running as verdict
-use Rattle.report.specs.Running.{Verdict, keep, KeptReady}
+use Rattle.report.specs.Kept.{keep}
+use Rattle.report.specs.Running.{Verdict}
 use Rattle.cut.specs.Running.{CutRan, cut_block_in, plan_of}
 use Rattle.cut_run.specs.declared.Cut.{Cut}
 use Rattle.check_cut.specs.declared.Stop.{Stop}
@@ -26,12 +27,12 @@ pub record Opens (s : List ℕ) (r : Answer Plan) : Type 0 where
   pub is : r ≡ answer_by (header_number s) (plan_of s)
   pub few : FewSeconds r
 
--- ---- before the first second
+-- ---- before the header
 
-pub record IsStart (r : Cut) : Type 0 where
+pub record IsStart (at : ℕ) (r : Cut) : Type 0 where
+  pub cut_at : r.at ≡ at
   pub kept : r.kept ≡ keep (fresh default_sheet) tally.zero
   pub handed : r.handed ≡ false
-  pub ready : KeptReady r.kept
 
 -- ---- after a block
 
@@ -41,13 +42,14 @@ Says (Ok x) v = v ≡ verdict.Accepted
 Says (Err (Refused e)) v = v ≡ verdict.Refused (number_of e)
 Says (Err Unsent) v = Unit
 
-abbrev pub ran_in : Plan → ℕ → ℕ → Cut → List ℕ → CutRan
-ran_in p at n c s = cut_block_in p at n c.kept c.handed s
+abbrev pub ran_in : ℕ → Cut → List ℕ → CutRan
+ran_in n c s = cut_block_in c.plan c.at n c.kept c.handed s
 
 -- block n of some bytes
-pub record AfterBlock (p : Plan) (at n : ℕ) (before after : Cut) (r : Result (Unit {0}) Stop) : Type 0 where
+pub record AfterBlock (n : ℕ) (before after : Cut) (r : Result (Unit {0}) Stop) : Type 0 where
   pub bytes : List ℕ
-  pub kept : after.kept ≡ (ran_in p at n before bytes).ran.kept
-  pub verdict : Says r (ran_in p at n before bytes).ran.verdict
-  pub handed : after.handed ≡ (ran_in p at n before bytes).handed
-  pub ready : KeptReady after.kept
+  pub kept : after.kept ≡ (ran_in n before bytes).ran.kept
+  pub verdict : Says r (ran_in n before bytes).ran.verdict
+  pub handed : after.handed ≡ (ran_in n before bytes).handed
+  pub plan : after.plan ≡ before.plan
+  pub cut_at : after.at ≡ before.at

@@ -2,15 +2,14 @@
 // judged, and the sum line of each part, under the default sheet. What is printed is `cut_printed` of crate `cut`. A read or write that fails ends it.
 #![tactic(auto)]
 
-ghost use Rattle.std.specs.Prelude.{◌≡◌, ◌≤◌, length, IfErr};
+ghost use Rattle.std.specs.Prelude.{◌≡◌, ◌≤◌, IfErr};
 ghost use Rattle.refusals.specs.Refusals.{told};
 ghost use Rattle.record.specs.Record.{most_seconds};
-ghost use Rattle.report.specs.Running.{KeptReady};
-ghost use Rattle.cut_run.specs.Adding.{cut_block_room};
 ghost use Rattle.check_cut.specs.declared.Stop.TheVariants.{Refused, Unsent};
 ghost use Rattle.check_cut.specs.Running.{Opens, IsStart, AfterBlock};
 
-use block::Header;
+use block::{Header, SIZE};
+use codec::Lent;
 use cut_run::Cut;
 use refusals::Refusal;
 use report::{Form, Kept, Plan};
@@ -47,99 +46,90 @@ fn open(bytes: &[u8]) -> Result<Plan, Refusal>
     })
 }
 
-// Before the first second.
-fn start() -> Cut
-    ensures { IsStart result }
+// Before the header, which gives owner and seconds.
+fn start(at: u32) -> Cut
+    ensures { IsStart at result }
 {
     Cut {
+        plan: Plan {
+            form: Form::Figures,
+            owner: 0,
+            seconds: 0,
+        },
+        at,
         kept: Kept::new(Sheet::default()),
         handed: false,
     }
 }
 
-fn send(rt: &impl Print, out: &[u8], end: usize) -> Result<(), Stop>
-    requires { end ≤ length out.now }
+fn send(rt: &impl Print, text: &[u8]) -> Result<(), Stop>
     ensures { IfErr result (λ stop. stop ≡ Unsent) }
 {
-    if rt.write_all(&out[..end]).is_ok() {
+    if rt.write_all(text).is_ok() {
         Ok(())
     } else {
         Err(Stop::Unsent)
     }
 }
 
-// Reads block n, runs it and sends its text.
-fn one_block<R: Read>(
-    rt: &impl Print,
-    input: &mut R,
-    cut: &mut Cut,
-    plan: Plan,
-    at: u32,
-    n: u32,
-    bytes: &mut [u8],
-    out: &mut [u8],
-) -> Result<(), Stop>
-    requires { KeptReady cut.old.kept × (cut_block_room ≤ length out.old) }
-    ensures { AfterBlock plan at n cut.old cut.new result }
-{
-    let len = full_read::read_full(input, bytes);
-    let mut used = 0;
-    let verdict = cut.block(plan, at, n, &bytes[..len], out, &mut used);
-    send(rt, out, used)?;
-    Ok(verdict?)
+// A book on its way from `input` to standard output: how far it came, the block read last, and room for a block's text.
+#[derive(Drop)]
+struct Printer<R> {
+    input: R,
+    cut: Cut,
+    bytes: [u8; SIZE],
+    out: [u8; ROOM],
 }
 
-// Block after block, until one is refused or its text can't be sent.
-fn blocks<R: Read>(
-    rt: &impl Print,
-    input: &mut R,
-    cut: &mut Cut,
-    plan: Plan,
-    at: u32,
-    bytes: &mut [u8],
-    out: &mut [u8],
-) -> Result<(), Stop>
-    requires { KeptReady cut.old.kept × (plan.seconds ≤ most_seconds) × (cut_block_room ≤ length out.old) }
-    ensures { KeptReady cut.new.kept }
-{
-    for n in 1..=block::last_block(plan.seconds) {
-        one_block(rt, input, cut, plan, at, n, bytes, out)?;
+impl<R: Read> Printer<R> {
+    // Reads block n, runs it and sends its text.
+    fn block(&mut self, rt: &impl Print, n: u32) -> Result<(), Stop>
+        ensures { AfterBlock n self.old.cut self.new.cut result }
+    {
+        let len = full_read::read_full(&mut self.input, &mut self.bytes);
+        let mut text = Lent::new(&mut self.out);
+        let verdict = self.cut.block(n, &self.bytes[..len], &mut text);
+        send(rt, text.filled())?;
+        Ok(verdict?)
     }
-    Ok(())
-}
 
-// The header, the blocks after it, and what follows the last one.
-fn book<R: Read>(
-    rt: &impl Print,
-    input: &mut R,
-    cut: &mut Cut,
-    at: u32,
-    bytes: &mut [u8],
-    out: &mut [u8],
-) -> Result<(), Stop>
-    requires { KeptReady cut.old.kept × (cut_block_room ≤ length out.old) }
-    ensures { KeptReady cut.new.kept }
-{
-    let len = full_read::read_full(input, bytes);
-    let plan = open(&bytes[..len])?;
-    blocks(rt, input, cut, plan, at, bytes, out)?;
-    let len = full_read::read_full(input, bytes);
-    Ok(standing::past_last(&bytes[..len])?)
+    // Block after block, until one is refused or its text can't be sent.
+    fn blocks(&mut self, rt: &impl Print) -> Result<(), Stop>
+        requires { self.old.cut.plan.seconds ≤ most_seconds }
+    {
+        for n in 1..=block::last_block(self.cut.plan.seconds) {
+            self.block(rt, n)?;
+        }
+        Ok(())
+    }
+
+    // The header, the blocks after it, and what follows the last one.
+    fn book(&mut self, rt: &impl Print) -> Result<(), Stop> {
+        let len = full_read::read_full(&mut self.input, &mut self.bytes);
+        self.cut.plan = open(&self.bytes[..len])?;
+        self.blocks(rt)?;
+        let len = full_read::read_full(&mut self.input, &mut self.bytes);
+        Ok(standing::past_last(&self.bytes[..len])?)
+    }
 }
 
 // The last line is printed where all text before it was sent.
 fn main(rt: HostRuntime) {
     let mut count = [0; 4];
-    let mut bytes = [0; block::SIZE];
-    let mut out = [0; ROOM];
     full_read::read_full(&mut rt.stdin(), &mut count);
-    let at = codec::read_u32(&count, 0);
-    let mut cut = start();
-    let verdict = match book(&rt, &mut rt.stdin(), &mut cut, at, &mut bytes, &mut out) {
+    let mut printer = Printer {
+        input: rt.stdin(),
+        cut: start(codec::read_u32(&count, 0)),
+        bytes: [0; SIZE],
+        out: [0; ROOM],
+    };
+    let verdict = match printer.book(&rt) {
         Ok(()) => Ok(()),
         Err(Stop::Refused(refusal)) => Err(refusal),
         Err(Stop::Unsent) => return,
     };
-    let end = report::add(&mut out, 0, standing::last_line(verdict, &cut.kept.book));
-    let _ = send(&rt, &out, end);
+    let line = standing::last_line(verdict, &printer.cut.kept.book);
+    let mut text = Lent::new(&mut printer.out);
+    report::add(&mut text, line);
+    let _ = send(&rt, text.filled());
 }

@@ -14,9 +14,8 @@ use Rattle.block.specs.Places.{block_size}
 use Rattle.block.specs.Header.{header_number, owner_of, seconds_of}
 use Rattle.block.specs.Book.{last_block, blocks_of}
 use Rattle.codec.specs.Little.{u32_at}
-use Rattle.report.specs.declared.run.Kept.{Kept}
+use Rattle.report.specs.Kept.{Kept, keep}
 use Rattle.report.specs.Running as verdict
-use Rattle.report.specs.Running.{keep}
 use Rattle.report.specs.Counts.{kept_of}
 use Rattle.report.proofs.Past.{tally_none}
 use Rattle.cut.specs.Cut.{count_size, cut_printed_by, cut_printed}

@@ -8,7 +8,7 @@ use Rattle.block.specs.Places.{block_size}
 use Rattle.block.specs.Block.{block_number, count_of, seconds_from}
 use Rattle.block.specs.Book.{Held, held_by, later_blocks}
 use Rattle.report.specs.declared.run.Plan.{Plan}
-use Rattle.report.specs.declared.run.Kept.{Kept}
+use Rattle.report.specs.Kept.{Kept}
 use Rattle.report.specs.Running as verdict
 use Rattle.report.specs.Running.{Verdict, after}
 use Rattle.standing.specs.Standing.{last_by}

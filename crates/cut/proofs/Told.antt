@@ -19,9 +19,9 @@ use Rattle.book.proofs.Handing.{handed}
 use Rattle.line.specs.Line.{sum_text}
 use Rattle.report.specs.declared.Form.TheVariants.{Figures}
 use Rattle.report.specs.declared.run.Plan.{Plan}
-use Rattle.report.specs.declared.run.Kept.{Kept}
+use Rattle.report.specs.Kept.{Kept, keep}
 use Rattle.report.specs.Running as verdict
-use Rattle.report.specs.Running.{Verdict, keep, Ran, second_in, refused_at}
+use Rattle.report.specs.Running.{Verdict, Ran, second_in, refused_at}
 use Rattle.report.specs.Text.{lines_of}
 use Rattle.report.specs.Counts.{kept_of}
 use Rattle.report.proofs.Past.{tally_none}

@@ -13,9 +13,9 @@ use Rattle.block.specs.Block.{block_number, count_of, seconds_from}
 use Rattle.block.specs.Book.{last_block, past_last}
 use Rattle.line.specs.Line.{sum_text}
 use Rattle.report.specs.declared.Form.TheVariants.{Figures}
-use Rattle.report.specs.declared.run.Kept.{Kept}
+use Rattle.report.specs.Kept.{Kept, keep}
 use Rattle.report.specs.declared.run.Plan.{Plan}
-use Rattle.report.specs.Running.{Verdict, Accepted, Refused, keep, Ran, refused_at, second_in, after}
+use Rattle.report.specs.Running.{Verdict, Accepted, Refused, Ran, refused_at, second_in, after}
 use Rattle.standing.specs.Standing.{last_by}
 use Rattle.cut.specs.Cut.{count_size}
 

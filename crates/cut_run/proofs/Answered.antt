@@ -1,40 +1,32 @@
 -- A block's run, by what the reader answered. Assumes nothing.
-use mathlib.Core.Path.{◌≡◌, refl, sym, ap, ◌∙◌}
-use mathlib.Core.Bool.{Bool}
-use mathlib.Core.List.{List, [], ◌∷◌}
-use Prim.Native.Nat.{ℕ, zero, suc, ◌≤◌}
-use native.Mathlib.Omega.{arith}
-use lib.ListN.{length}
-use Rattle.std.proofs.Common.{Result, Ok, Err}
+use Rattle.std.proofs.Common.{◌≡◌, ℕ, zero, suc, ◌≤◌, List, [], ◌∷◌, length, refl, arith}
 use Rattle.refusals.specs.declared.Refusal.{Refusal}
 use Rattle.refusals.specs.Refusals.{number_of}
+use Rattle.codec.specs.declared.lent.Lent.{Lent}
+use Rattle.codec.proofs.Lents.{loosen, none}
 use Rattle.block.specs.Said.{refused, answered}
-use Rattle.block.specs.Block.{block_number, block_of, block_says, count_of, seconds_from}
-use Rattle.block.proofs.Taken.{block_fields, block_zero}
-use Rattle.codec.proofs.Puts.{loosen, none}
-use Rattle.report.specs.declared.run.Kept.{Kept}
-use Rattle.report.specs.declared.run.Plan.{Plan}
-use Rattle.report.specs.Running.{Refused, refused_at, KeptReady}
+use Rattle.block.specs.Block.{block_number, block_of, count_of, seconds_from}
+use Rattle.report.specs.Running.{Refused, refused_at}
 use Rattle.cut.specs.Running.{cut_seconds_in, block_by, cut_block_in}
-use Rattle.cut_run.specs.declared.Cut.{Cut as Held}
-use Rattle.cut_run.specs.Adding.{cut_block_room, cut_of, CutAdds}
+use Rattle.cut_run.specs.declared.Cut.{Cut}
+use Rattle.cut_run.specs.Adding.{cut_block_room, CutAdds}
 
-module _ (p : Plan) (at n : ℕ) (s : List ℕ) where
-  pub in_turn : {r : Result ℕ Refusal} {m : ℕ} (k : Kept) (was : Bool) → r ≡ Ok m → block_says r ≡ block_of s p.seconds n → cut_block_in p at n k was s ≡ cut_seconds_in p at k was (seconds_from s 0 m)
+module _ (c : Cut) (n : ℕ) (s : List ℕ) where
+  pub in_turn : (ss : List (List ℕ)) → block_number s c.plan.seconds n ≡ 0 → ss ≡ seconds_from s 0 (count_of s) → cut_block_in c.plan c.at n c.kept c.handed s ≡ cut_seconds_in c.plan c.at c.kept c.handed ss
   unfolding cut_block_in
-  in_turn {m = m} k was is says =
-      let f = block_fields s p.seconds n m (sym says ∙ ap block_says is) in
-      rw (block_zero s p.seconds n f.0, f.1)
+  in_turn ss is all = rw (is, all) refl
 
-  number_is : (k : Kept) (was : Bool) (q m : ℕ) → refused m ≡ answered q (count_of s ∷ []) → block_by q p at k was s ≡ record { ran = refused_at k m; handed = was }
-  number_is k was zero m e = let z : ◌≡◌ {A = ℕ} 0 1 = cc in absurd (omega arith)
-  number_is k was (suc q) m e = cc
+  number_is : (q m : ℕ) → refused m ≡ answered q (count_of s ∷ []) → block_by q c.plan c.at c.kept c.handed s ≡ record { ran = refused_at c.kept m; handed = c.handed }
+  number_is zero m e = cc
+  number_is (suc q) m e = cc
 
-  pub turned_down : {r : Result ℕ Refusal} {b : List ℕ} {e : Refusal} {used : ℕ} (cut : Held) → r ≡ Err e → block_says r ≡ block_of s p.seconds n → KeptReady cut.kept → used ≤ length b → CutAdds cut_block_room b b used (cut_of cut used (Refused (number_of e))) (cut_block_in p at n cut.kept cut.handed s)
+  pub turned_down : (e : Refusal) {t : Lent} → refused (number_of e) ≡ block_of s c.plan.seconds n → t.at ≤ length t.buf.now → CutAdds cut_block_room t t c c (Refused (number_of e)) (cut_block_in c.plan c.at n c.kept c.handed s)
   unfolding cut_block_in
-  turned_down {b = b} {e} {used} cut is says ready room =
-      rw (number_is cut.kept cut.handed (block_number s p.seconds n) (number_of e) (sym (ap block_says is) ∙ says))
+  turned_down e {t} says room =
+      rw (number_is (block_number s c.plan.seconds n) (number_of e) says)
       (record {
-        adds = record { kept = refl; verdict = refl; text = loosen (omega arith) (none b used room); ready = ready };
+        adds = record { kept = refl; verdict = refl; text = loosen (omega arith) (none t room) };
         handed = refl;
+        plan = refl;
+        cut_at = refl;
       })

@@ -1,4 +1,3 @@
-pub mod Moved
 pub mod Handed
 pub mod Through
 pub mod Answered

@@ -1,115 +1,72 @@
--- The seconds of a block in turn: what those so far added, and the rest. Assumes nothing.
-use mathlib.Core.Path.{◌≡◌, refl, sym, ap, ◌∙◌}
-use mathlib.Core.Bool.{Bool}
-use mathlib.Core.List.{List, [], ◌++◌, append_assoc, append-nil}
-use Prim.Native.Nat.{ℕ, suc, ◌+◌, ◌*◌, ◌-◌, ◌≤◌, ◌<◌}
-use native.Mathlib.Numerals.{add-one}
-use native.Mathlib.Omega.{arith}
-use lib.ListN.{length, length-append}
-use Rattle.block.specs.Block.{second_of, seconds_from}
-use Rattle.block.specs.Bytes.{part}
-use Rattle.block.specs.Places.{block_size, per_block, second_size, second_at}
-use Rattle.codec.specs.Put.{Put}
-use Rattle.codec.proofs.Puts.{both, kept, loosen, none}
-use Rattle.report.specs.declared.run.Kept.{Kept}
-use Rattle.report.specs.declared.run.Plan.{Plan}
-use Rattle.report.proofs.Seconds.{second_next, left_length}
-use Rattle.report.specs.Running.{Verdict, Accepted, Refused, KeptReady}
-use Rattle.cut.specs.Running.{CutRan, followed, cut_second_in, cut_seconds_in}
+-- The seconds of a block in turn: what those so far added, and those that are left. Assumes nothing.
+use Rattle.std.proofs.Common.{◌≡◌, ℕ, ◌+◌, ◌*◌, ◌≤◌, List, [], ◌∷◌, ◌++◌, length, refl, ap, ◌∙◌, arith, append_assoc, append-nil}
+use Rattle.block.specs.Places.{per_block}
+use Rattle.codec.specs.declared.lent.Lent.{Lent}
+use Rattle.codec.specs.Lent.{HasRoom, Grown}
+use Rattle.codec.proofs.Lents.{both, loosen, none}
+use Rattle.report.specs.Running.{Verdict, Accepted, Refused}
+use Rattle.cut.specs.Running.{CutRan, cut_second_in, cut_seconds_in}
 use Rattle.cut.proofs.Parts.{after_text}
-use Rattle.cut_run.specs.declared.Cut.{Cut as Held}
-use Rattle.cut_run.specs.Adding.{cut_room, cut_block_room, cut_of, CutAdds}
+use Rattle.cut_run.specs.declared.Cut.{Cut}
+use Rattle.cut_run.specs.Adding.{cut_room, cut_block_room, CutAdds}
 
--- seconds 0 to i - 1 of a block's `count` were accepted: they added `added` up to byte `used`, and left `now`; all of them give that and what the rest gives
-pub record Through (p : Plan) (at : ℕ) (cut : Held) (s : List ℕ) (count : ℕ) (b e : List ℕ) (used : ℕ) (now : Held) (end i : ℕ) : Type 0 where
+-- the seconds ss, run by the cut c
+abbrev run_of : Cut → List (List ℕ) → CutRan
+run_of c ss = cut_seconds_in c.plan c.at c.kept c.handed ss
+
+-- the seconds ss before the last ones, `rest`, were accepted: they put `added` into the lent buffer t, that is v, and left `now`; all of them give
+-- that and what the rest gives
+pub record Left (c : Cut) (ss : List (List ℕ)) (t : Lent) (now : Cut) (v : Lent) (rest : List (List ℕ)) : Type 0 where
   pub added : List ℕ
-  pub within : i ≤ count
-  pub put : Put (i * cut_room) b e used end added
-  pub whole : cut_seconds_in p at cut.kept cut.handed (seconds_from s 0 count) ≡ after_text added (cut_seconds_in p at now.kept now.handed (seconds_from s i (count - i)))
-  pub same : length e ≡ length b
-  pub ready : KeptReady now.kept
+  pub used : ℕ
+  pub put : Grown used t v added
+  pub few : used + length rest * cut_room ≤ cut_block_room
+  pub plan : now.plan ≡ c.plan
+  pub cut_at : now.at ≡ c.at
+  pub whole : run_of c ss ≡ after_text added (run_of now rest)
 
-start : {p : Plan} {s b : List ℕ} {at count used : ℕ} {cut : Held} → KeptReady cut.kept → used ≤ length b → Through p at cut s count b b used cut used 0
-start {p} {s} {b} {at} {count} {used} {cut} ready room =
-    let all : count - 0 ≡ count = omega arith in
-    record { added = []; within = omega arith; put = loosen (omega arith) (none b used room); whole = rw all; same = refl; ready = ready }
+pub all_left : {c : Cut} {ss : List (List ℕ)} {t : Lent} → length ss ≤ per_block → HasRoom cut_block_room t → Left c ss t c t ss
+all_left {t = t} short room =
+    record { added = []; used = 0; put = none t (omega (arith, room)); few = omega (arith, short); plan = refl; cut_at = refl; whole = refl }
 
--- one second more
-next : (p : Plan) (at : ℕ) (k : Kept) (was : Bool) (s : List ℕ) (count i : ℕ) → i < count → cut_seconds_in p at k was (seconds_from s i (count - i)) ≡ followed (cut_second_in p at k was (second_of s i)) (cut_second_in p at k was (second_of s i)).ran.verdict (cut_seconds_in p at (cut_second_in p at k was (second_of s i)).ran.kept (cut_second_in p at k was (second_of s i)).handed (seconds_from s (i + 1) (count - (i + 1))))
-unfolding cut_seconds_in seconds_from
-next p at k was s count i h =
-    let more : count - i ≡ suc (count - (i + 1)) = omega arith in
-    rw (more, add-one)
-
-module _ {p : Plan} {at : ℕ} {cut now new : Held} {s b c e : List ℕ} {count used end last i : ℕ} {v : Verdict} {t : List ℕ} (f : Through p at cut s count b c used now end i) (h : i < count) (is : t ≡ second_of s i) (d : CutAdds cut_room c e end (cut_of new last v) (cut_second_in p at now.kept now.handed t)) where
+module _ {c now new : Cut} {ss rest later : List (List ℕ)} {x : List ℕ} {t u v : Lent} {w : Verdict} (f : Left c ss t now u rest) (is : rest ≡ x ∷ later) (d : CutAdds cut_room u v now new w (cut_second_in now.plan now.at now.kept now.handed x)) where
   abbrev one : CutRan
-  one = cut_second_in p at now.kept now.handed (second_of s i)
+  one = cut_second_in now.plan now.at now.kept now.handed x
 
-  g : CutAdds cut_room c e end (cut_of new last v) one
-  g = rw is at d
-
-  put_more : Put ((i + 1) * cut_room) b e used last (f.added ++ one.ran.text)
-  put_more = loosen (omega arith) (both f.put g.adds.text)
-
-  onward : v ≡ Accepted → Through p at cut s count b e used new last (i + 1)
-  onward a =
+  pub one_less : w ≡ Accepted → Left c ss t new v later
+  unfolding cut_seconds_in
+  one_less a =
       record {
         added = f.added ++ one.ran.text;
-        within = omega arith;
-        put = put_more;
-        whole = f.whole ∙ ap (after_text f.added) (next p at now.kept now.handed s count i h) ∙ rw (← g.adds.verdict, a, ← g.adds.kept, ← g.handed) (rw append_assoc);
-        same = kept g.adds.text ∙ f.same;
-        ready = g.adds.ready;
+        used = f.used + cut_room;
+        put = both f.put d.adds.text;
+        few = omega (arith, f.few, ap length is);
+        plan = d.plan ∙ f.plan;
+        cut_at = d.cut_at ∙ f.cut_at;
+        whole = f.whole ∙ rw (is, ← d.adds.verdict, a, ← d.adds.kept, ← d.handed, d.plan, d.cut_at) (rw append_assoc);
       }
 
-  stopped : {n : ℕ} → count ≤ per_block → v ≡ Refused n → CutAdds cut_block_room b e used (cut_of new last v) (cut_seconds_in p at cut.kept cut.handed (seconds_from s 0 count))
-  stopped few a =
-      let all : cut_seconds_in p at cut.kept cut.handed (seconds_from s 0 count) ≡ after_text f.added one =
-      f.whole ∙ ap (after_text f.added) (next p at now.kept now.handed s count i h ∙ rw (← g.adds.verdict, a)) in
+  pub one_refused : {n : ℕ} → w ≡ Refused n → CutAdds cut_block_room t v c new w (run_of c ss)
+  unfolding cut_seconds_in
+  one_refused a =
+      let all : run_of c ss ≡ after_text f.added one = f.whole ∙ rw (is, ← d.adds.verdict, a) in
       rw all
       (record {
-        adds = record { kept = g.adds.kept; verdict = g.adds.verdict; text = loosen (omega arith) put_more; ready = g.adds.ready };
-        handed = g.handed;
+        adds = record { kept = d.adds.kept; verdict = d.adds.verdict; text = loosen (omega (arith, f.few, ap length is)) (both f.put d.adds.text) };
+        handed = d.handed;
+        plan = d.plan ∙ f.plan;
+        cut_at = d.cut_at ∙ f.cut_at;
       })
 
-finished : {p : Plan} {at : ℕ} {cut now : Held} {s b e : List ℕ} {count used end i : ℕ} → Through p at cut s count b e used now end i → count ≤ i → count ≤ per_block → CutAdds cut_block_room b e used (cut_of now end Accepted) (cut_seconds_in p at cut.kept cut.handed (seconds_from s 0 count))
-unfolding cut_seconds_in seconds_from
-finished {count = count} {i = i} f h few =
-    let no_more : count - i ≡ 0 = omega arith in
-    let all = rw (no_more, append-nil) at f.whole in
+pub none_left : {c now : Cut} {ss rest : List (List ℕ)} {t v : Lent} → Left c ss t now v rest → length rest ≡ 0 → CutAdds cut_block_room t v c now Accepted (run_of c ss)
+unfolding cut_seconds_in
+none_left {rest = []} f h =
+    let all = rw append-nil at f.whole in
     rw all
     (record {
-      adds = record { kept = refl; verdict = refl; text = loosen (omega arith) f.put; ready = f.ready };
+      adds = record { kept = refl; verdict = refl; text = loosen (omega (arith, f.few)) f.put };
       handed = refl;
+      plan = f.plan;
+      cut_at = f.cut_at;
     })
-
--- ---- likewise, by the bytes of the seconds that are left
-
-pub record Left (p : Plan) (at : ℕ) (cut : Held) (s : List ℕ) (count : ℕ) (b e : List ℕ) (used : ℕ) (now : Held) (end : ℕ) (rest : List ℕ) : Type 0 where
-  pub before : ℕ
-  pub through : Through p at cut s count b e used now end before
-  pub bytes : rest ≡ part s (second_at before) (second_at count)
-
-pub all_left : {p : Plan} {at : ℕ} {cut : Held} {s b rest : List ℕ} {count used : ℕ} → KeptReady cut.kept → used ≤ length b → rest ≡ part s (second_at 0) (second_at count) → Left p at cut s count b b used cut used rest
-all_left ready room is = record { before = 0; through = start ready room; bytes = is }
-
-module _ {p : Plan} {at : ℕ} {cut now new : Held} {s b c e rest : List ℕ} {count used end last : ℕ} {v : Verdict} (whole : length s ≡ block_size) (few : count ≤ per_block) (f : Left p at cut s count b c used now end rest) (x after : List ℕ) (is : rest ≡ x ++ after) (size : length x ≡ second_size) (d : CutAdds cut_room c e end (cut_of new last v) (cut_second_in p at now.kept now.handed x)) where
-  some : f.before < count
-  some =
-      let len : length rest ≡ length x + length after = ap length is ∙ length-append x after in
-      let all : length rest ≡ second_at count - second_at f.before = ap length f.bytes ∙ left_length s count f.before whole few in
-      omega (arith, size)
-
-  taken_next : (x ≡ second_of s f.before) × (after ≡ part s (second_at (f.before + 1)) (second_at count))
-  taken_next = second_next s count f.before whole few some (sym f.bytes ∙ is) size
-
-  pub one_less : v ≡ Accepted → Left p at cut s count b e used new last after
-  one_less a = record { before = f.before + 1; through = onward f.through some taken_next.0 d a; bytes = taken_next.1 }
-
-  pub one_refused : {n : ℕ} → v ≡ Refused n → CutAdds cut_block_room b e used (cut_of new last v) (cut_seconds_in p at cut.kept cut.handed (seconds_from s 0 count))
-  one_refused a = stopped f.through some taken_next.0 d few a
-
-pub none_left : {p : Plan} {at : ℕ} {cut now : Held} {s b e rest : List ℕ} {count used end : ℕ} → length s ≡ block_size → count ≤ per_block → Left p at cut s count b e used now end rest → length rest < second_size → CutAdds cut_block_room b e used (cut_of now end Accepted) (cut_seconds_in p at cut.kept cut.handed (seconds_from s 0 count))
-none_left {s = s} {count = count} whole few f h =
-    let all = ap length f.bytes ∙ left_length s count f.before whole few in
-    finished f.through (omega (arith, all, f.through.within)) few
+none_left {rest = x ∷ l} f h = absurd (omega arith)

@@ -2,59 +2,52 @@
 // in the next book, with the delivery ends of their calls in its seconds.
 #![tactic(auto)]
 
-ghost use Rattle.std.specs.Prelude.{◌≡◌, ◌+◌, ◌≤◌, false, length};
-ghost use Rattle.codec.specs.Put.{Put};
-ghost use Rattle.record.specs.Record.{size, book_size, moved_back};
-ghost use Rattle.block.specs.Places.{block_size, per_block};
-ghost use Rattle.block.specs.Block.{seconds_from};
+ghost use Rattle.std.specs.Prelude.{◌≡◌, ◌≤◌, false, length};
+ghost use Rattle.codec.specs.Lent.{HasRoom};
+ghost use Rattle.block.specs.Places.{per_block};
 ghost use Rattle.line.specs.Widths.{row_room};
 ghost use Rattle.report.specs.Text.{second_room};
-ghost use Rattle.report.specs.Running.{verdict_told, KeptReady};
+ghost use Rattle.report.specs.Running.{verdict_told};
 ghost use Rattle.book.specs.Cut.{bytes_back};
 ghost use Rattle.cut.specs.Running.{handed_in, before_in, judged_in, cut_second_in, cut_seconds_in, cut_block_in};
-ghost use Rattle.cut_run.specs.Adding.{cut_room, cut_block_room, cut_of, CutAdds};
+ghost use Rattle.cut_run.specs.Adding.{cut_room, cut_block_room, CutAdds};
 
+use codec::Lent;
+use record::BOOK_SIZE;
 use refusals::Refusal;
 use report::{Kept, Plan, TextLine};
 use tally::Tally;
 
-// What is kept in the book that is open, and whether that one was handed over.
+// How a book is run, the second before which it is handed over, what is kept in the book that is open, and whether that one was handed over. The
+// flag guards no value: what is kept is whole before the handover and after it.
 #[derive(Clone, Copy)]
 pub struct Cut {
+    pub plan: Plan,
+    pub at: u32,
     pub kept: Kept,
     pub handed: bool,
 }
 
-// A plant's 36 bytes with a call's delivery end moved back, put into the buffer.
-fn put_moved(buf: &mut [u8], at: usize, bytes: &[u8], seconds: u32) -> usize
-    requires { (length bytes.now ≡ size) × (at + size ≤ length buf.old) }
-    ensures { Put size buf.old buf.new at result (moved_back seconds bytes.now) × (result ≡ at + size) }
+// A book second with the delivery ends of U's, A's and B's calls moved back.
+fn moved_back(bytes: &[u8; BOOK_SIZE], seconds: u32) -> [u8; BOOK_SIZE]
+    ensures { result ≡ bytes_back seconds bytes.now }
 {
-    let mut own = [0; record::SIZE];
-    codec::put_bytes(&mut own, 0, bytes);
-    record::move_back(&mut own, seconds);
-    codec::put_bytes(buf, at, &own)
-}
-
-// A book second so, U, A and B.
-fn put_second(buf: &mut [u8], bytes: &[u8], seconds: u32)
-    requires { (length bytes.now ≡ book_size) × (length buf.old ≡ book_size) }
-    ensures { buf.new ≡ bytes_back seconds bytes.now }
-{
-    let (unit, pools) = bytes.split_at(record::SIZE);
-    let (a, b) = pools.split_at(record::SIZE);
-    let at = put_moved(buf, 0, unit, seconds);
-    let at = put_moved(buf, at, a, seconds);
-    put_moved(buf, at, b, seconds);
+    let mut moved = *bytes;
+    let (unit, pools) = moved.split_first_chunk_mut().unwrap();
+    let (a, b) = pools.split_first_chunk_mut().unwrap();
+    record::move_back(unit, seconds);
+    record::move_back(a, seconds);
+    record::move_back(b.as_mut_array().unwrap(), seconds);
+    moved
 }
 
 impl Cut {
     // The first book's sum line, and its handover.
-    fn hand_over(&mut self, out: &mut [u8], used: &mut usize) -> Result<(), Refusal>
-        requires { KeptReady self.old.kept × (self.old.handed ≡ false) × (used.old + row_room ≤ length out.old) }
-        ensures { CutAdds row_room out.old out.new used.old (cut_of self.new used.new (verdict_told result)) (handed_in self.old.kept) }
+    fn hand_over(&mut self, text: &mut Lent) -> Result<(), Refusal>
+        requires { (self.old.handed ≡ false) × HasRoom row_room text.old }
+        ensures { CutAdds row_room text.old text.new self.old self.new (verdict_told result) (handed_in self.old.kept) }
     {
-        *used = report::add(out, *used, TextLine::Sums(self.kept.book.sums));
+        report::add(text, TextLine::Sums(self.kept.book.sums));
         self.kept.book.hand_over()?;
         self.kept.tally = Tally::new();
         self.handed = true;
@@ -62,86 +55,56 @@ impl Cut {
     }
 
     // Before a second is judged: where it is second `at`, the handover.
-    fn before(&mut self, at: u32, out: &mut [u8], used: &mut usize) -> Result<(), Refusal>
-        requires { KeptReady self.old.kept × (used.old + row_room ≤ length out.old) }
-        ensures { CutAdds row_room out.old out.new used.old (cut_of self.new used.new (verdict_told result)) (before_in at self.old.kept self.old.handed) }
+    fn before(&mut self, text: &mut Lent) -> Result<(), Refusal>
+        requires { HasRoom row_room text.old }
+        ensures { CutAdds row_room text.old text.new self.old self.new (verdict_told result) (before_in self.old.at self.old.kept self.old.handed) }
     {
-        if self.handed || self.kept.book.unit.seconds != at {
+        if self.handed || self.kept.book.unit.seconds != self.at {
             return Ok(());
         }
-        self.hand_over(out, used)
+        self.hand_over(text)
     }
 
     // The second itself, in the book that is open: in the next one with its calls' ends moved back.
-    fn judge(
-        &mut self,
-        plan: Plan,
-        at: u32,
-        bytes: &[u8],
-        out: &mut [u8],
-        used: &mut usize,
-    ) -> Result<(), Refusal>
-        requires { KeptReady self.old.kept × (length bytes.now ≡ book_size) × (used.old + second_room ≤ length out.old) }
-        ensures { CutAdds second_room out.old out.new used.old (cut_of self.new used.new (verdict_told result)) (judged_in plan at self.old.kept self.old.handed bytes.now) }
+    fn judge(&mut self, bytes: &[u8; BOOK_SIZE], text: &mut Lent) -> Result<(), Refusal>
+        requires { HasRoom second_room text.old }
+        ensures { CutAdds second_room text.old text.new self.old self.new (verdict_told result) (judged_in self.old.plan self.old.at self.old.kept self.old.handed bytes.now) }
     {
-        if !self.handed {
-            return report::run_second(&mut self.kept, plan, bytes, out, used);
+        if self.handed {
+            let moved = moved_back(bytes, self.at);
+            self.kept.run_second(self.plan, &moved, text)
+        } else {
+            self.kept.run_second(self.plan, bytes, text)
         }
-        let mut moved = [0; record::BOOK_SIZE];
-        put_second(&mut moved, bytes, at);
-        report::run_second(&mut self.kept, plan, &moved, out, used)
     }
 
     // One second, with what comes before it.
-    fn second(
-        &mut self,
-        plan: Plan,
-        at: u32,
-        bytes: &[u8],
-        out: &mut [u8],
-        used: &mut usize,
-    ) -> Result<(), Refusal>
-        requires { KeptReady self.old.kept × (length bytes.now ≡ book_size) × (used.old + cut_room ≤ length out.old) }
-        ensures { CutAdds cut_room out.old out.new used.old (cut_of self.new used.new (verdict_told result)) (cut_second_in plan at self.old.kept self.old.handed bytes.now) }
+    fn second(&mut self, bytes: &[u8; BOOK_SIZE], text: &mut Lent) -> Result<(), Refusal>
+        requires { HasRoom cut_room text.old }
+        ensures { CutAdds cut_room text.old text.new self.old self.new (verdict_told result) (cut_second_in self.old.plan self.old.at self.old.kept self.old.handed bytes.now) }
     {
-        self.before(at, out, used)?;
-        self.judge(plan, at, bytes, out, used)
+        self.before(text)?;
+        self.judge(bytes, text)
     }
 
     // The seconds of a block, until one is refused or the handover is. A loop beside that of `report`: one for both would ask for a closure that holds
-    // the cut, the buffer and its end, which is no plainer.
-    fn seconds(
-        &mut self,
-        plan: Plan,
-        at: u32,
-        block: &[u8],
-        count: usize,
-        out: &mut [u8],
-        used: &mut usize,
-    ) -> Result<(), Refusal>
-        requires { KeptReady self.old.kept × (length block.now ≡ block_size) × (count ≤ per_block) × (used.old + cut_block_room ≤ length out.old) }
-        ensures { CutAdds cut_block_room out.old out.new used.old (cut_of self.new used.new (verdict_told result)) (cut_seconds_in plan at self.old.kept self.old.handed (seconds_from block.now 0 count)) }
+    // the cut and the text, which is no plainer.
+    fn seconds(&mut self, seconds: &[[u8; BOOK_SIZE]], text: &mut Lent) -> Result<(), Refusal>
+        requires { (length seconds.now ≤ per_block) × HasRoom cut_block_room text.old }
+        ensures { CutAdds cut_block_room text.old text.new self.old self.new (verdict_told result) (cut_seconds_in self.old.plan self.old.at self.old.kept self.old.handed seconds.now) }
     {
-        for second in block::body(block, count).chunks_exact(record::BOOK_SIZE) {
-            self.second(plan, at, second, out, used)?;
+        for second in seconds {
+            self.second(second, text)?;
         }
         Ok(())
     }
 
     // Block n as it was read: its seconds are run, or it is refused.
-    pub fn block(
-        &mut self,
-        plan: Plan,
-        at: u32,
-        n: u32,
-        bytes: &[u8],
-        out: &mut [u8],
-        used: &mut usize,
-    ) -> Result<(), Refusal>
-        requires { KeptReady self.old.kept × (used.old + cut_block_room ≤ length out.old) }
-        ensures { CutAdds cut_block_room out.old out.new used.old (cut_of self.new used.new (verdict_told result)) (cut_block_in plan at n self.old.kept self.old.handed bytes.now) }
+    pub fn block(&mut self, n: u32, bytes: &[u8], text: &mut Lent) -> Result<(), Refusal>
+        requires { HasRoom cut_block_room text.old }
+        ensures { CutAdds cut_block_room text.old text.new self.old self.new (verdict_told result) (cut_block_in self.old.plan self.old.at n self.old.kept self.old.handed bytes.now) }
     {
-        let count = block::read_block(bytes, plan.seconds, n)?;
-        self.seconds(plan, at, bytes, count, out, used)
+        let seconds = block::read_block(bytes, self.plan.seconds, n)?;
+        self.seconds(seconds, text)
     }
 }

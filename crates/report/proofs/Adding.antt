@@ -1,9 +1,6 @@
 -- A line written into the rest of a lent buffer is text put where that rest starts. Assumes nothing.
-use Rattle.std.proofs.Common.{◌≡◌, ℕ, ◌+◌, ◌-◌, ◌≤◌, List, ◌++◌, length, take, drop, Result, Ok, sym, ap, ◌∙◌, arith}
-use mathlib.Core.List.{append-nil}
-use lib.ListN.{length-drop}
-use lib.Seq.{take_all, drop-length, drop-drop}
-use borrow.Author.Tests.{le-ltb}
+use Rattle.std.proofs.Common.{◌≡◌, ℕ, ◌+◌, ◌-◌, ◌≤◌, List, ◌++◌, length, take, drop, Result, Ok, sym, ap, ◌∙◌, arith, append-nil, length-drop, take_all, drop-drop, le-ltb}
+use lib.Seq.{drop-length}
 use borrow.Rule.Slice.PartMut.{mid_of, put_mid, Post-is}
 use Rattle.refusals.specs.declared.Refusal.{Refusal}
 use Rattle.line.proofs.Lines.{taken}

@@ -5,16 +5,16 @@ use Rattle.refusals.specs.Refusals.{number_of}
 use Rattle.codec.specs.declared.lent.Lent.{Lent}
 use Rattle.codec.proofs.Lents.{loosen, none}
 use Rattle.block.specs.Said.{refused, answered}
-use Rattle.block.specs.Block.{block_number, block_of, count_of, all_seconds, seconds_from}
+use Rattle.block.specs.Block.{block_number, block_of, count_of, seconds_from}
 use Rattle.report.specs.declared.run.Plan.{Plan}
 use Rattle.report.specs.Text.{block_room}
 use Rattle.report.specs.Kept.{Kept}
 use Rattle.report.specs.Running.{Refused, refused_at, seconds_in, block_by, block_in, Adds}
 
 module _ (p : Plan) (n : ℕ) (s : List ℕ) where
-  pub in_turn : (body : List ℕ) (k : Kept) → block_number s p.seconds n ≡ 0 → all_seconds body ≡ seconds_from s 0 (count_of s) → block_in p n k s ≡ seconds_in p k (all_seconds body)
+  pub in_turn : (ss : List (List ℕ)) (k : Kept) → block_number s p.seconds n ≡ 0 → ss ≡ seconds_from s 0 (count_of s) → block_in p n k s ≡ seconds_in p k ss
   unfolding block_in
-  in_turn body k is all = rw (is, all)
+  in_turn ss k is all = rw (is, all) refl
 
   number_is : (k : Kept) (q m : ℕ) → refused m ≡ answered q (count_of s ∷ []) → block_by q p k s ≡ refused_at k m
   number_is k zero m e = cc

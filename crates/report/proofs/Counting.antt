@@ -1,8 +1,5 @@
 -- The book counts a second that gives rows, and none is taken back. Assumes nothing.
-use mathlib.Core.Path.{◌≡◌, refl}
-use Prim.Native.Nat.{ℕ, zero, suc, ◌+◌, ◌≤◌}
-use native.Mathlib.Omega.{arith}
-use lib.IntN.{pos}
+use Rattle.std.proofs.Common.{◌≡◌, refl, ℕ, zero, suc, ◌+◌, ◌≤◌, arith, pos}
 use Rattle.row.specs.declared.Row.{Row}
 use Rattle.refusals.specs.Refusals as plant-answer
 use Rattle.refusals.specs.Refusals.{Answer}

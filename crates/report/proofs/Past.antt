@@ -1,6 +1,5 @@
 -- The counts over a past with a second more. Assumes nothing.
-use mathlib.Core.Path.{◌≡◌, refl}
-use mathlib.Core.List.{[], ◌∷◌}
+use Rattle.std.proofs.Common.{◌≡◌, refl, [], ◌∷◌}
 use Rattle.sheet.specs.declared.Sheet.{Sheet}
 use Rattle.book.specs.Seconds.{BookSecond, History, Closed}
 use Rattle.book.specs.Rows.{unit_row_at, a_row_at, b_row_at}

@@ -1,6 +1,5 @@
 -- The seconds of a block in turn: one second's answer, and what the seconds so far added. Assumes nothing.
-use Rattle.std.proofs.Common.{◌≡◌, ℕ, ◌+◌, ◌*◌, ◌/◌, ◌≤◌, ◌<◌, List, [], ◌∷◌, ◌++◌, length, length-append, refl, ap, ◌∙◌, arith}
-use mathlib.Core.List.{append_assoc, append-nil}
+use Rattle.std.proofs.Common.{◌≡◌, ℕ, ◌+◌, ◌*◌, ◌≤◌, ◌<◌, List, [], ◌∷◌, ◌++◌, length, drop, get_or, refl, ap, ◌∙◌, arith, append_assoc, append-nil, add-one, drop-cons}
 use Rattle.row.specs.declared.Row.{Row}
 use Rattle.refusals.specs.Refusals.{number_of}
 use Rattle.book.specs.declared.Book.{Book}
@@ -9,9 +8,7 @@ use Rattle.book.specs.declared.BookRefusal.TheVariants.{Form, Of}
 use Rattle.book.specs.Answers.{BookStep, Rows, refusal_in, refusal_told}
 use Rattle.book.specs.State.{Stepped}
 use Rattle.book.specs.State as book
-use Rattle.block.specs.Block.{all_seconds}
-use Rattle.block.specs.Places.{per_block, second_size}
-use Rattle.block.proofs.Seconds.{one_more, no_more}
+use Rattle.block.specs.Places.{per_block}
 use Rattle.codec.specs.declared.lent.Lent.{Lent}
 use Rattle.codec.specs.Lent.{HasRoom, Grown}
 use Rattle.codec.proofs.Lents.{both, loosen, none}
@@ -52,47 +49,44 @@ pub refusal_is : (p : Plan) (k : Kept) (b : Book) (e : BookRefusal) → answered
 refusal_is p k b (Form e) = refl
 refusal_is p k b (Of who e) = refl
 
--- ---- the seconds so far, and those whose bytes are left
+-- ---- the seconds so far, and those that are left
 
--- the seconds of the bytes s before the last ones, `rest`, were accepted: they put `added` into the lent buffer t, that is v, and left `now`; all of
--- them give that and what the rest gives
-pub record Left (p : Plan) (k : Kept) (s : List ℕ) (t : Lent) (now : Kept) (v : Lent) (rest : List ℕ) : Type 0 where
+-- the seconds ss before the last ones, `rest`, were accepted: they put `added` into the lent buffer t, that is v, and left `now`; all of them give
+-- that and what the rest gives
+pub record Left (p : Plan) (k : Kept) (ss : List (List ℕ)) (t : Lent) (now : Kept) (v : Lent) (rest : List (List ℕ)) : Type 0 where
   pub added : List ℕ
   pub used : ℕ
   pub put : Grown used t v added
-  pub few : used + length rest / second_size * second_room ≤ block_room
-  pub whole : seconds_in p k (all_seconds s) ≡ after added (seconds_in p now (all_seconds rest))
+  pub few : used + length rest * second_room ≤ block_room
+  pub whole : seconds_in p k ss ≡ after added (seconds_in p now rest)
 
-pub all_left : {p : Plan} {k : Kept} {s : List ℕ} {t : Lent} → length s ≤ second_size * per_block → HasRoom block_room t → Left p k s t k t s
+pub from_next : (ss : List (List ℕ)) (i : ℕ) → i < length ss → drop i ss ≡ get_or ss i [] ∷ drop (i + 1) ss
+from_next ss i h = rw add-one (drop-cons ss i [] h)
+
+pub all_left : {p : Plan} {k : Kept} {ss : List (List ℕ)} {t : Lent} → length ss ≤ per_block → HasRoom block_room t → Left p k ss t k t ss
 all_left {t = t} short room = record { added = []; used = 0; put = none t (omega (arith, room)); few = omega (arith, short); whole = refl }
 
-module _ {p : Plan} {k now : Kept} {s rest : List ℕ} {t u : Lent} (f : Left p k s t now u rest) (x later : List ℕ) (is : rest ≡ x ++ later) (size : length x ≡ second_size) where
-  more : all_seconds rest ≡ x ∷ all_seconds later
-  more = ap all_seconds is ∙ one_more x later size
+module _ {p : Plan} {k now new : Kept} {ss rest later : List (List ℕ)} {x : List ℕ} {t u v : Lent} {w : Verdict} (f : Left p k ss t now u rest) (is : rest ≡ x ∷ later) (d : Adds second_room u v new w (second_in p now x)) where
+  pub one_less : w ≡ Accepted → Left p k ss t new v later
+  unfolding seconds_in
+  one_less a =
+      record {
+        added = f.added ++ (second_in p now x).text;
+        used = f.used + second_room;
+        put = both f.put d.text;
+        few = omega (arith, f.few, ap length is);
+        whole = f.whole ∙ rw (is, ← d.verdict, a, ← d.kept) (rw append_assoc);
+      }
 
-  fewer : length rest / second_size ≡ length later / second_size + 1
-  fewer = let len = ap length is ∙ length-append x later in omega (arith, size)
+  pub one_refused : {n : ℕ} → w ≡ Refused n → Adds block_room t v new w (seconds_in p k ss)
+  unfolding seconds_in
+  one_refused a =
+      let all : seconds_in p k ss ≡ after f.added (second_in p now x) = f.whole ∙ rw (is, ← d.verdict, a) in
+      rw all (record { kept = d.kept; verdict = d.verdict; text = loosen (omega (arith, f.few, ap length is)) (both f.put d.text) })
 
-  module _ {new : Kept} {v : Lent} {w : Verdict} (d : Adds second_room u v new w (second_in p now x)) where
-    pub one_less : w ≡ Accepted → Left p k s t new v later
-    unfolding seconds_in
-    one_less a =
-        record {
-          added = f.added ++ (second_in p now x).text;
-          used = f.used + second_room;
-          put = both f.put d.text;
-          few = omega (arith, f.few, fewer);
-          whole = f.whole ∙ rw (more, ← d.verdict, a, ← d.kept) (rw append_assoc);
-        }
-
-    pub one_refused : {n : ℕ} → w ≡ Refused n → Adds block_room t v new w (seconds_in p k (all_seconds s))
-    unfolding seconds_in
-    one_refused a =
-        let all : seconds_in p k (all_seconds s) ≡ after f.added (second_in p now x) = f.whole ∙ rw (more, ← d.verdict, a) in
-        rw all (record { kept = d.kept; verdict = d.verdict; text = loosen (omega (arith, f.few, fewer)) (both f.put d.text) })
-
-pub none_left : {p : Plan} {k now : Kept} {s rest : List ℕ} {t v : Lent} → Left p k s t now v rest → length rest < second_size → Adds block_room t v now Accepted (seconds_in p k (all_seconds s))
+pub none_left : {p : Plan} {k now : Kept} {ss rest : List (List ℕ)} {t v : Lent} → Left p k ss t now v rest → length rest ≡ 0 → Adds block_room t v now Accepted (seconds_in p k ss)
 unfolding seconds_in
-none_left {rest = rest} f h =
-    let all = rw (no_more rest h, append-nil) at f.whole in
+none_left {rest = []} f h =
+    let all = rw append-nil at f.whole in
     rw all (record { kept = refl; verdict = refl; text = loosen (omega (arith, f.few)) f.put })
+none_left {rest = x ∷ l} f h = absurd (omega arith)

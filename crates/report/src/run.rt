@@ -1,11 +1,10 @@
 // A block run second by second: the text that it adds, what is kept after it, and its refusal.
-ghost use Rattle.std.specs.Prelude.{◌≡◌, ◌*◌, ◌≤◌, length};
+ghost use Rattle.std.specs.Prelude.{◌≡◌, ◌≤◌, length};
 ghost use Rattle.sheet.specs.Sheet.{InRange};
 ghost use Rattle.codec.specs.Lent.{HasRoom};
 ghost use Rattle.book.specs.State.{fresh};
 ghost use Rattle.tally.specs.Tally.{zero};
-ghost use Rattle.block.specs.Places.{per_block, second_size};
-ghost use Rattle.block.specs.Block.{all_seconds};
+ghost use Rattle.block.specs.Places.{per_block};
 ghost use Rattle.report.specs.Text.{second_room, block_room};
 ghost use Rattle.report.specs.Kept.{Kept as Held, keep, KeptReady};
 ghost use Rattle.report.specs.Running.{verdict_told, second_in, seconds_in, block_in, Adds};
@@ -14,6 +13,7 @@ use crate::Form;
 use crate::lines::add_second;
 use book::Book;
 use codec::Lent;
+use record::BOOK_SIZE;
 use refusals::Refusal;
 use sheet::Sheet;
 use std::marker::Model;
@@ -73,11 +73,16 @@ impl Kept {
     }
 
     // The seconds of a block, until one is refused.
-    fn run_seconds(&mut self, plan: Plan, seconds: &[u8], text: &mut Lent) -> Result<(), Refusal>
-        requires { (length seconds.now ≤ second_size * per_block) × HasRoom block_room text.old }
-        ensures { Adds block_room text.old text.new self.new (verdict_told result) (seconds_in plan self.old (all_seconds seconds.now)) }
+    fn run_seconds(
+        &mut self,
+        plan: Plan,
+        seconds: &[[u8; BOOK_SIZE]],
+        text: &mut Lent,
+    ) -> Result<(), Refusal>
+        requires { (length seconds.now ≤ per_block) × HasRoom block_room text.old }
+        ensures { Adds block_room text.old text.new self.new (verdict_told result) (seconds_in plan self.old seconds.now) }
     {
-        for second in seconds.chunks_exact(record::BOOK_SIZE) {
+        for second in seconds {
             self.run_second(plan, second, text)?;
         }
         Ok(())

@@ -1,10 +1,14 @@
 -- In the first book as it is, in the next one moved back.
+use Rattle.std.proofs.Common.{refl}
 use Rattle.cut_run.proofs.Handed.{in_first_lem, in_next}
 use Rattle.cut_run.proofs.Cut.judge.Goals as goal
 
-pub returns-then-not-self : goal.returns-then-not-self
-returns-then-not-self c = in_first_lem c.args.plan c.args.at c.args.self.now c.args.bytes.now c.if-not-self.true c.run_second.ensures
+pub returns-then-self : goal.returns-then-self
+returns-then-self c =
+    rw (in_next c.args.self.now c.args.bytes.now c.if-self.true)
+    (record { adds = rw c.moved_back-moved.ensures at c.run_second.ensures; handed = refl; plan = refl; cut_at = refl })
 
-pub returns : goal.returns
-returns c =
-    in_next c.args.plan c.args.at c.args.self.now c.args.bytes.now c.if-not-self.false (rw c.put_second.ensures at c.run_second-2.ensures)
+pub returns-else-self : goal.returns-else-self
+returns-else-self c =
+    rw (in_first_lem c.args.self.now c.args.bytes.now c.if-self.false)
+    (record { adds = c.run_second-else-self.ensures; handed = refl; plan = refl; cut_at = refl })

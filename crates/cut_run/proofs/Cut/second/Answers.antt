@@ -7,7 +7,7 @@ use Rattle.cut_run.proofs.Cut.second.Goals as goal
 pub returns-in_err-before : goal.returns-in_err-before
 returns-in_err-before c =
     let p = err_from_is_err_and c.from_residual.result c.from_residual.ensures.1 in
-    rw (p.1, p.2) (stopped c.args.plan c.args.at c.args.self.now c.args.bytes.now c.in_err-before.ensures refl)
+    rw (p.1, p.2) (stopped c.args.self.now c.args.bytes.now c.in_err-before.ensures refl)
 
 pub returns : goal.returns
-returns c = went_on c.args.plan c.args.at c.args.self.now c.args.bytes.now c.in_ok-before.ensures refl c.judge.ensures
+returns c = went_on c.args.self.now c.args.bytes.now c.in_ok-before.ensures refl c.judge.ensures

@@ -7,7 +7,7 @@ use Rattle.report.proofs.run.Kept.run_block.Goals as goal
 
 pub run_seconds-requires : goal.run_seconds-requires
 run_seconds-requires c =
-    let f = read_seconds c.args.block.now c.args.plan.seconds c.args.n c.in_ok-seconds.was c.read_block.ensures.count c.read_block.ensures.bytes in
+    let f = read_seconds c.args.block.now c.args.plan.seconds c.args.n c.in_ok-seconds.was c.read_block.ensures.count c.read_block.ensures.each in
     (f.few, c.requires)
 
 pub returns-in_err-seconds : goal.returns-in_err-seconds
@@ -17,5 +17,5 @@ returns-in_err-seconds c =
 
 pub returns : goal.returns
 returns c =
-    let f = read_seconds c.args.block.now c.args.plan.seconds c.args.n c.in_ok-seconds.was c.read_block.ensures.count c.read_block.ensures.bytes in
-    rw (in_turn c.args.plan c.args.n c.args.block.now _ c.args.self.now f.number f.each) c.run_seconds.ensures
+    let f = read_seconds c.args.block.now c.args.plan.seconds c.args.n c.in_ok-seconds.was c.read_block.ensures.count c.read_block.ensures.each in
+    rw (in_turn c.args.plan c.args.n c.args.block.now _ c.args.self.now f.number f.is) c.run_seconds.ensures
