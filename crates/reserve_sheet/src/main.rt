@@ -7,6 +7,7 @@ ghost use Rattle.reserve_sheet.specs.Form.{sheet_size, sheet_of, spare_set, read
 ghost use Rattle.refusals.specs.Refusals.{told};
 ghost use Rattle.sheet.specs.Sheet.{InRange};
 
+use codec::Lent;
 use power::Kw;
 use refusals::Refusal;
 use report::{Form, TextLine};
@@ -55,15 +56,15 @@ fn read(s: &[u8]) -> Result<Sheet, Refusal>
 
 fn refuse(rt: &impl Print, refusal: Refusal) {
     let mut out = [0; line::ROW_ROOM];
-    let end = report::add(
-        &mut out,
-        0,
+    let mut text = Lent::new(&mut out);
+    report::add(
+        &mut text,
         TextLine::Refusal {
             refusal,
             seconds: 0,
         },
     );
-    let _ = rt.write_all(&out[..end]);
+    let _ = rt.write_all(text.filled());
 }
 
 fn main(rt: HostRuntime) {
