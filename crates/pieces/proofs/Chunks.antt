@@ -68,9 +68,6 @@ pub start : {r : Reading} {s : List ℕ} {t : Lent} → t.at ≤ length t.buf.no
 start {t = t} h = record { added = []; put = loosen (omega arith) (none t h); whole = refl; paced = omega arith }
 
 module _ {r v : Reading} {s rest : List ℕ} {t u : Lent} (short : length r.part < block_size) (few : length s ≤ piece_size) (f : Through r s t u v rest) where
-  pub has_room : HasRoom piece_room t → HasRoom block_room u
-  has_room h = omega (arith, f.paced, f.put.long, h)
-
   pub more : {m : ℕ} {x after : List ℕ} {w : Lent} {y : Reading} → rest ≡ x ++ after → Chunked m v x u w y → Through r s t w y after
   more {m} {x} {after} {w} {y} is d =
       let b = bytes_in v.standing v.part x in
