@@ -157,7 +157,8 @@ impl Book {
         Ok(())
     }
 
-    // A book second of any owner byte and any bytes. One that is turned down leaves the book as it was.
+    // A book second of any owner byte and any bytes. One that is turned down leaves the book as it was. The owner byte is the header's and the bytes are
+    // the second's, so they stay two parameters.
     #[tactic(auto, using(crate::proofs::Form::whole))]
     pub fn second(&mut self, owner: u8, bytes: &[u8]) -> Result<BookRows, BookRefusal>
         requires { Ready self.old }

@@ -103,7 +103,7 @@ module _ {k : ℕ} {s rest : List ℕ} {t u : Lent} (f : SoFar k s rest t u) whe
       let count : k ≡ length s / record_size = omega (arith, left, f.within) in
       loosen (omega (arith, count)) (subst (λ (q : ℕ). Grown (k * line_width) t u (lines_of q s)) count f.grown)
 
--- n bytes of `new`, which stand in b from `from` on
+-- n bytes of `new`, which stand in b from `from` on. `full_read` has the same line of its own, since neither crate uses the other.
 pub received : (from k n : ℕ) (b new : List ℕ) → from ≤ length b → n ≤ length new → take (from + n) (put_mid from k b new) ≡ take from b ++ take n new
 received from k n b new h i = grind (arith, common_steps, take-append-add)
 

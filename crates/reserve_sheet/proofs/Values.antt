@@ -8,19 +8,4 @@ use Rattle.reserve_sheet.specs.Values.{Values}
 
 pub values : Values
 unfolding outside twos_complement default_sheet percent_out range_out fcr_reaction_out afrr_reaction_out sheet_number sheet_of spare_set figure_out form_number
-values =
-    record {
-      default = refl;
-      accepted = refl;
-      short = refl;
-      spare_5 = refl;
-      spare_7 = refl;
-      spare_12 = refl;
-      spare_15 = refl;
-      fcr_floor_is = refl;
-      afrr_floor_is = refl;
-      excess = refl;
-      fcr_reaction_is = refl;
-      afrr_reaction_is = refl;
-      least_range_is = refl;
-    }
+values = assumption refl

@@ -57,6 +57,7 @@ pub fn last_line(verdict: Result<(), Refusal>, book: &Book) -> TextLine
 impl Standing {
     ghost use Rattle.standing.specs.Stood.{stood};
 
+    // Sheet and form stay two parameters: the sheet goes into the book, the form into the plan.
     #[tactic(auto, unfolding(crate::specs::Standing::start))]
     pub fn new(sheet: FairSheet, form: Form) -> Standing
         ensures { stood result ≡ start sheet.figures form }
