@@ -27,8 +27,12 @@ pub fn send_book<R: Read, W: Write>(
 }
 
 // Sends it to standard output.
-pub fn print_book<R: Read>(rt: &(impl Print + Eprint), input: &mut R, sheet: FairSheet, form: Form)
-{
+pub fn print_book<R: Read>(
+    rt: &(impl Print + Eprint),
+    input: &mut R,
+    sheet: FairSheet,
+    form: Form,
+) {
     if let Err(failure) = send_book(input, &mut io::writer(rt), sheet, form) {
         sending::say(rt, failure);
     }
