@@ -44,7 +44,7 @@ fn due(seconds: u32, n: u32) -> usize
 // The seconds of block n, a part of the caller's slice, read with the header's seconds and n, the number next in turn; or the first rule that the
 // block breaks.
 #[tactic(auto, using(std::proofs::lemmas::Bool::Decides::nat_tests, crate::proofs::Seconds::chunks), unfolding(crate::specs::Block::block_number))]
-pub fn read_block(s: &[u8], seconds: u32, n: u32) -> Result<&[[u8; SECOND]], Refusal>
+pub fn read_block(s: &[u8], seconds: u32, n: u32) -> Result<&[[u8; record::BOOK_SIZE]], Refusal>
     ensures count { block_says (count_told result) ≡ block_of s.now seconds n }
     ensures each { IfOk result (λ seconds. seconds.now ≡ seconds_from s.now 0 (count_of s.now)) }
 {

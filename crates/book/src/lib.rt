@@ -32,8 +32,9 @@ pub enum Plant {
     B,
 }
 
-// The sheet, the states of the three plants, and the kept sums. That it is `Ready` stands in clauses and is no invariant of the type, which would
-// ask more than they do: of callers, who may make a book from its fields, and of the definitions, which make one of any sheet and any past.
+// The sheet, the states of the three plants, and the kept sums. That it is `Ready` stands in clauses and is no invariant of the type: the
+// definitions make a book of any sheet and any past, and all of them speak of this struct, so that a record of the same fields beside it, as `Kept` of
+// `report` has it, would be no plainer.
 #[derive(Clone, Copy)]
 pub struct Book {
     pub sheet: Sheet,

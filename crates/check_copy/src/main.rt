@@ -25,9 +25,9 @@ fn copy_header(bytes: &[u8], buf: &mut [u8; SIZE]) -> Result<Header, Refusal>
 fn copy_block(bytes: &[u8], seconds: u32, n: u32, buf: &mut [u8; SIZE]) -> Result<usize, Refusal>
     ensures { record { said = block_says result; buffer = buf.new } ≡ block_copy buf.old bytes.now seconds n }
 {
-    let seconds = block::read_block(bytes, seconds, n)?;
-    block::write_block(buf, n, seconds.as_flattened()).unwrap();
-    Ok(seconds.len())
+    let held = block::read_block(bytes, seconds, n)?;
+    block::write_block(buf, n, held.as_flattened()).unwrap();
+    Ok(held.len())
 }
 
 // A book on its way from `input` to standard output: the block read last, and the same written anew.

@@ -57,7 +57,7 @@ fn ask<F: FnOnce(&mut [u8]) -> Result<(), Refusal>>(
     println!(rt; "{what} {} {weight}", Outcome(answer))
 }
 
-// Into a buffer that holds other bytes already.
+// Into a buffer that is filled with other bytes first.
 fn ask_of<F: FnOnce(&mut [u8]) -> Result<(), Refusal>>(
     rt: &impl Print,
     what: &str,

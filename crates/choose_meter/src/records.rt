@@ -20,6 +20,7 @@ fn reading_of(form: u8, value: f32) -> Reading
     }
 }
 
+// By its place, as the form gives it.
 #[tactic(auto, unfolding(crate::specs::Records::meter_at))]
 fn meter_at(s: &[u8; SIZE], at: usize) -> Meter
     requires { at + meter_size ≤ record_size }

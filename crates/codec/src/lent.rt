@@ -1,5 +1,5 @@
 // A lent buffer that fills from its front: what is put stands before `at`, where the next byte goes. How much room a function asks for stands in its
-// clause (`HasRoom`): each puts other bytes, and a type for each room would be no plainer. Where bytes go and what is put stay two parameters, since no fact
+// clause (`HasRoom`): each puts another number of bytes, and a type for each room would be no plainer. Where bytes go and what is put stay two parameters, since no fact
 // is about both.
 ghost use Rattle.std.specs.Prelude.{◌≡◌, ◌≤◌, [], ◌∷◌, length, take};
 ghost use Rattle.codec.specs.Little.{le2, le4};

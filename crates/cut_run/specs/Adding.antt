@@ -15,7 +15,7 @@ cut_room = row_room + second_room
 abbrev pub cut_block_room : ℕ
 cut_block_room = per_block * cut_room
 
--- with text of at most m bytes put into the lent buffer t, that is u; the cut c is d then, and v is the verdict
+-- with text of at most m bytes put into the lent buffer t, which is u then; the cut c is d then, and v is the verdict
 pub record CutAdds (m : ℕ) (t u : Lent) (c d : Cut) (v : Verdict) (w : CutRan) : Type 0 where
   pub adds : Adds m t u d.kept v w.ran
   pub handed : d.handed ≡ w.handed

@@ -29,7 +29,7 @@ pub struct Cut {
 }
 
 // A book second with the delivery ends of U's, A's and B's calls moved back.
-fn moved_back(bytes: &[u8; BOOK_SIZE], seconds: u32) -> [u8; BOOK_SIZE]
+fn bytes_back(bytes: &[u8; BOOK_SIZE], seconds: u32) -> [u8; BOOK_SIZE]
     ensures { result ≡ bytes_back seconds bytes.now }
 {
     let mut moved = *bytes;
@@ -71,7 +71,7 @@ impl Cut {
         ensures { CutAdds second_room text.old text.new self.old self.new (verdict_told result) (judged_in self.old.plan self.old.at self.old.kept self.old.handed bytes.now) }
     {
         if self.handed {
-            let moved = moved_back(bytes, self.at);
+            let moved = bytes_back(bytes, self.at);
             self.kept.run_second(self.plan, &moved, text)
         } else {
             self.kept.run_second(self.plan, bytes, text)

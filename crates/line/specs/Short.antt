@@ -7,12 +7,12 @@ use Rattle.row.specs.declared.side.SideCount.{SideCount}
 use Rattle.row.specs.declared.side.KindCounts.{KindCounts}
 use Rattle.row.specs.declared.side.PlantCounts.{PlantCounts}
 use Rattle.row.specs.Side.{side_of}
-use Rattle.line.specs.declared.short_lines.Kind.{Kind}
-use Rattle.line.specs.declared.short_lines.Kind.TheVariants.{Fcr, Afrr, Mfrr}
+use Rattle.line.specs.declared.short_lines.KindName.{KindName}
+use Rattle.line.specs.declared.short_lines.KindName.TheVariants.{Fcr, Afrr, Mfrr}
 use Rattle.line.specs.Text.{ascii, digits, start_text}
 
 -- a kind's name, after a space
-abbrev pub name_of : Kind → List ℕ
+abbrev pub name_of : KindName → List ℕ
 name_of Fcr = ascii " FCR"
 name_of Afrr = ascii " aFRR"
 name_of Mfrr = ascii " mFRR"
@@ -32,8 +32,8 @@ side_text t letter kind (Above kw) = outside_text t letter kind (ascii " above "
 -- the kinds of a plant in the order FCR, aFRR, mFRR
 unfoldable pub short_text : ℕ → ℕ → Row → List ℕ
 short_text t letter x =
-    side_text t letter (ascii " FCR") (side_of x.fcr)
-    ++ (side_text t letter (ascii " aFRR") (side_of x.afrr) ++ side_text t letter (ascii " mFRR") (side_of x.mfrr))
+    side_text t letter (name_of Fcr) (side_of x.fcr)
+    ++ (side_text t letter (name_of Afrr) (side_of x.afrr) ++ side_text t letter (name_of Mfrr) (side_of x.mfrr))
 
 -- ---- the counts
 
@@ -48,5 +48,5 @@ kind_counts_text letter kind c =
 
 unfoldable pub counts_text : ℕ → PlantCounts → List ℕ
 counts_text letter c =
-    kind_counts_text letter (ascii " FCR") c.fcr
-    ++ (kind_counts_text letter (ascii " aFRR") c.afrr ++ kind_counts_text letter (ascii " mFRR") c.mfrr)
+    kind_counts_text letter (name_of Fcr) c.fcr
+    ++ (kind_counts_text letter (name_of Afrr) c.afrr ++ kind_counts_text letter (name_of Mfrr) c.mfrr)

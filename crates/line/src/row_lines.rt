@@ -14,7 +14,7 @@ use row::KindRow;
 // The least buffer that this line writer takes, and those of the shares and the short lines; no line needs more.
 pub const ROW_ROOM: usize = 256;
 
-// Each line of a plant begins with the second and the plant's letter.
+// Each line of a plant's second begins with the second and the plant's letter.
 pub(crate) fn put_start(lent: &mut Lent, x: &PlantSecond)
     requires { HasRoom start_width lent.old }
     ensures { Grown start_width lent.old lent.new (start_text x.now.second x.now.letter) }

@@ -14,22 +14,22 @@ use refusals::Refusal;
 use row::{BandSide, KindCounts, KindRow, PlantCounts, SideCount};
 
 #[derive(Clone, Copy)]
-enum Kind {
+enum KindName {
     Fcr,
     Afrr,
     Mfrr,
 }
 
-impl Kind {
+impl KindName {
     // The kind's name, after a space.
     fn name(self) -> &'static [u8]
         ensures name { result.now ≡ name_of self }
         ensures most { length result.now ≤ name_width }
     {
         match self {
-            Kind::Fcr => b" FCR",
-            Kind::Afrr => b" aFRR",
-            Kind::Mfrr => b" mFRR",
+            KindName::Fcr => b" FCR",
+            KindName::Afrr => b" aFRR",
+            KindName::Mfrr => b" mFRR",
         }
     }
 }
@@ -40,7 +40,7 @@ const BELOW: &[u8; 7] = b" below ";
 const ABOVE: &[u8; 7] = b" above ";
 
 // The line of a kind outside its band.
-fn put_outside(lent: &mut Lent, x: &PlantSecond, kind: Kind, side: &[u8; 7], kw: u32)
+fn put_outside(lent: &mut Lent, x: &PlantSecond, kind: KindName, side: &[u8; 7], kw: u32)
     requires { HasRoom outside_width lent.old }
     ensures { Grown outside_width lent.old lent.new (outside_text x.now.second x.now.letter (name_of kind) side.now kw) }
 {
@@ -52,7 +52,7 @@ fn put_outside(lent: &mut Lent, x: &PlantSecond, kind: Kind, side: &[u8; 7], kw:
 }
 
 // Nothing for a kind within its band.
-fn put_side(lent: &mut Lent, x: &PlantSecond, kind: Kind, k: KindRow)
+fn put_side(lent: &mut Lent, x: &PlantSecond, kind: KindName, k: KindRow)
     requires { HasRoom outside_width lent.old }
     ensures { Grown outside_width lent.old lent.new (side_text x.now.second x.now.letter (name_of kind) (side_of k)) }
 {
@@ -69,9 +69,9 @@ pub fn plant_short(buf: &mut [u8], x: PlantSecond) -> Result<usize, Refusal>
 {
     check_room(buf, ROW_ROOM)?;
     let mut lent = Lent::new(buf);
-    put_side(&mut lent, &x, Kind::Fcr, x.row.fcr);
-    put_side(&mut lent, &x, Kind::Afrr, x.row.afrr);
-    put_side(&mut lent, &x, Kind::Mfrr, x.row.mfrr);
+    put_side(&mut lent, &x, KindName::Fcr, x.row.fcr);
+    put_side(&mut lent, &x, KindName::Afrr, x.row.afrr);
+    put_side(&mut lent, &x, KindName::Mfrr, x.row.mfrr);
     Ok(lent.at)
 }
 
@@ -86,7 +86,7 @@ fn put_side_count(lent: &mut Lent, side: &[u8; 7], c: SideCount)
     put_number(lent, c.kw_seconds);
 }
 
-fn put_kind_counts(lent: &mut Lent, letter: u8, kind: Kind, c: KindCounts)
+fn put_kind_counts(lent: &mut Lent, letter: u8, kind: KindName, c: KindCounts)
     requires { HasRoom counts_width lent.old }
     ensures { Grown counts_width lent.old lent.new (kind_counts_text letter (name_of kind) c) }
 {
@@ -103,8 +103,8 @@ pub fn plant_counts(buf: &mut [u8], letter: u8, c: PlantCounts) -> Result<usize,
 {
     check_room(buf, ROW_ROOM)?;
     let mut lent = Lent::new(buf);
-    put_kind_counts(&mut lent, letter, Kind::Fcr, c.fcr);
-    put_kind_counts(&mut lent, letter, Kind::Afrr, c.afrr);
-    put_kind_counts(&mut lent, letter, Kind::Mfrr, c.mfrr);
+    put_kind_counts(&mut lent, letter, KindName::Fcr, c.fcr);
+    put_kind_counts(&mut lent, letter, KindName::Afrr, c.afrr);
+    put_kind_counts(&mut lent, letter, KindName::Mfrr, c.mfrr);
     Ok(lent.at)
 }

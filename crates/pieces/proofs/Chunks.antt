@@ -57,7 +57,7 @@ at_front bytes begin end g = rw end (rw (bytes, begin) at g.put)
 
 -- ---- a piece chunk by chunk
 
--- of the bytes s all but `rest` are taken: they put `added` into the lent buffer t, that is u, and left v; all of them give that and what the rest gives
+-- of the bytes s all but `rest` are taken: they put `added` into the lent buffer t, which is u then, and left v; all of them give that and what the rest gives
 pub record Through (r : Reading) (s : List ℕ) (t u : Lent) (v : Reading) (rest : List ℕ) : Type 0 where
   pub added : List ℕ
   pub put : Grown piece_room t u added

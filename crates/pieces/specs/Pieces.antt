@@ -85,14 +85,14 @@ pub record Fitting (r : Reading) (s : List ℕ) : Type 0 where
   pub some : 0 < length s
   pub fits : length r.part + length s ≤ block_size
 
--- the text of the bytes s, of at most m bytes, is put into the lent buffer t, that is u; v is where the book stands then. A block's text is added
+-- the text of the bytes s, of at most m bytes, is put into the lent buffer t, which is u then; v is where the book stands then. A block's text is added
 -- only where a block is whole, so no more room is used than the bytes ask for
 pub record Chunked (m : ℕ) (r : Reading) (s : List ℕ) (t u : Lent) (v : Reading) : Type 0 where
   pub reading : v ≡ left_by (bytes_in r.standing r.part s)
   pub text : Grown m t u (bytes_in r.standing r.part s).text
   pub paced : u.at * block_size + length v.part * block_room ≤ t.at * block_size + (length r.part + length s) * block_room
 
--- and what every reading's bytes are: less than a block
+-- so many bytes are wanted, at most a piece; `short` is the type's invariant, which callers need and can't cite
 pub record Wanted (r : Reading) (n : ℕ) : Type 0 where
   pub is : n ≡ wanted_in r.standing (length r.part)
   pub most : n ≤ piece_size

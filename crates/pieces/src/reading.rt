@@ -14,15 +14,15 @@ use sheet::FairSheet;
 use standing::Standing;
 use std::marker::Model;
 
-// The most bytes that are taken at once, and the room that their text asks for, three lines a second. That no more come is a clause of `take` and of the
-// two that it calls: a piece is part of what a reader read, and a type of its own would be made and undone in that one call.
+// The most bytes that are taken at once, and the room that their text asks for, three lines a second. That no more come is a clause of `take`,
+// `take_parts` and `take_blocks`: a piece is part of what a reader read, and a type of its own would be made and undone in that one call.
 pub const PIECE: usize = PIECE_BLOCKS * block::SIZE;
 
 pub const PIECE_ROOM: usize = (PIECE_BLOCKS + 2) * 3 * line::ROW_ROOM * block::PER_BLOCK;
 
 const PIECE_BLOCKS: usize = 32;
 
-// Where a book stands as its bytes come, with the bytes of the next block that are there.
+// Where a book stands as its bytes come, with the bytes of the next block that are there. `Clone` and no more `Copy`, since an `ArrayVec` isn't.
 #[derive(Clone, Drop)]
 pub struct Reading {
     pub standing: Standing,
@@ -108,7 +108,7 @@ impl Reading {
         requires { (length bytes.now ≤ piece_size) × HasRoom piece_room text.old }
         ensures { Chunked piece_room self.old bytes.now text.old text.new self.new }
     {
-        // The proof learns here that these bytes are short of a block.
+        // The proof learns here that `part` is short of a block.
         let _ = &self.part;
         let mut rest = bytes;
         while !rest.is_empty() {

@@ -1,7 +1,7 @@
-// The grains of a kW, in which limits are carried.
+// How many grains make a kW, the unit that limits are carried in.
 ghost use Rattle.power.specs.Units.{Divides};
 
-// How many grains make a kW: a figure of the sheet, in the range that every power's grains fit by.
+// The sheet's number, or AbLa's five; so few that every power's grains fit 64 bits.
 #[derive(Clone, Copy, Debug, PartialEq, Eq, PartialOrd, Ord)]
 pub struct PerKw {
     pub grains: u32,

@@ -12,7 +12,7 @@ pub record Kept : Type 0 where
 abbrev pub keep : Book → Tally → Kept
 keep k q = record { book = k; tally = q }
 
--- the counts are those of the seconds that the book counts
+-- the book is ready, and no count is larger than its seconds allow
 pub record KeptReady (k : Kept) : Type 0 where
   pub book : Ready k.book
   pub counts : TallyWithin k.book.unit.seconds k.tally

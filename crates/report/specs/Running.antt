@@ -78,7 +78,7 @@ block_in p n k s = block_by (block_number s p.seconds n) p k s
 
 -- ---- what the operations answer
 
--- with text of at most m bytes put into the lent buffer t, that is u; k is kept, and v is the verdict
+-- with text of at most m bytes put into the lent buffer t, which is u then; k is kept, and v is the verdict
 pub record Adds (m : ℕ) (t u : Lent) (k : Kept) (v : Verdict) (w : Ran) : Type 0 where
   pub kept : k ≡ w.kept
   pub verdict : v ≡ w.verdict

@@ -33,7 +33,7 @@ pub struct Kept {
     pub tally: Tally,
 }
 
-// Seen as its two fields; the counts are always those of the book's seconds.
+// Seen as its two fields. The book is ready, and no count is larger than its seconds allow.
 impl Model for Kept {
     ghost Value = { Held };
 

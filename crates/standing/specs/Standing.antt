@@ -107,7 +107,7 @@ last_line_in st = last_by (end_of st) st.book
 unfoldable pub bytes_due : Standing → ℕ
 bytes_due st = (last_block st.plan.seconds + 1 - st.next) * block_size
 
--- with text of at most m bytes put into the lent buffer t, that is u; r is where the book stands then
+-- with text of at most m bytes put into the lent buffer t, which is u then; r is where the book stands then
 pub record Advances (m : ℕ) (t u : Lent) (r : Standing) (w : Went) : Type 0 where
   pub standing : r ≡ w.standing
   pub text : Grown m t u w.text

@@ -6,7 +6,7 @@ use Rattle.cut_run.proofs.Cut.judge.Goals as goal
 pub returns-then-self : goal.returns-then-self
 returns-then-self c =
     rw (in_next c.args.self.now c.args.bytes.now c.if-self.true)
-    (record { adds = rw c.moved_back-moved.ensures at c.run_second.ensures; handed = refl; plan = refl; cut_at = refl })
+    (record { adds = rw c.bytes_back-moved.ensures at c.run_second.ensures; handed = refl; plan = refl; cut_at = refl })
 
 pub returns-else-self : goal.returns-else-self
 returns-else-self c =

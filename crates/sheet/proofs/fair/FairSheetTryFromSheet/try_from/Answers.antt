@@ -1,3 +1,4 @@
+-- What the check doesn't turn down is in range.
 use Rattle.std.proofs.Common.{sym}
 use Rattle.sheet.proofs.Ranges.{in_range}
 use Rattle.sheet.proofs.fair.FairSheetTryFromSheet.try_from.Goals as goal

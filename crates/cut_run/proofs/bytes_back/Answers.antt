@@ -2,7 +2,7 @@
 use Rattle.std.proofs.Common.{◌≡◌, refl, sym, ap, ◌∙◌, ℕ, ◌*◌, List, length, take, drop, take_all, drop-drop, length-drop, arith}
 use Rattle.record.specs.Record.{size, book_size}
 use Rattle.book.specs.State.{PartsOf}
-use Rattle.cut_run.proofs.moved_back.Goals as goal
+use Rattle.cut_run.proofs.bytes_back.Goals as goal
 
 parts_of : {s u p a b : List ℕ} → length s ≡ book_size → u ≡ take size s → p ≡ drop size s → a ≡ take size p → b ≡ drop size p → PartsOf s u a b
 parts_of {s} l u p a b =
