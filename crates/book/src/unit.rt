@@ -1,5 +1,5 @@
 // Who sells what at the unit, and the values there. That the unit's row is sized stands in clauses: how large a row may be goes by the plant, and a type
-// for each plant's row would be no plainer.
+// for each plant's row would be no plainer. So does that the powers of its record are in range, which its own numbers see to.
 ghost use Rattle.std.specs.Prelude.{◌≡◌, ◌+ℤ◌};
 ghost use Rattle.numbers.specs.Bounds.{Within};
 ghost use Rattle.record.specs.Record.{record_of};

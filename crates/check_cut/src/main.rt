@@ -65,11 +65,7 @@ fn start(at: u32) -> Cut
 fn send(rt: &impl Print, text: &[u8]) -> Result<(), Stop>
     ensures { IfErr result (λ stop. stop ≡ Unsent) }
 {
-    if rt.write_all(text).is_ok() {
-        Ok(())
-    } else {
-        Err(Stop::Unsent)
-    }
+    rt.write_all(text).map_err(|_| Stop::Unsent)
 }
 
 // A book on its way from `input` to standard output: how far it came, the block read last, and room for a block's text.

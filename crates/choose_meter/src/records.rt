@@ -9,6 +9,7 @@ use refusals::Refusal;
 
 pub(crate) const SIZE: usize = 64;
 
+// Any byte may name a form; those of none are a meter that failed.
 #[tactic(auto, unfolding(crate::specs::Records::reading_of))]
 fn reading_of(form: u8, value: f32) -> Reading
     ensures { result ≡ reading_of form value }

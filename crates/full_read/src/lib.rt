@@ -14,6 +14,7 @@ pub fn read_full<R: Read>(input: &mut R, bytes: &mut [u8]) -> usize
     ensures read { Consumes (R.remaining input.old) (R.remaining input.new) (take result bytes.new) }
 {
     let mut done = 0;
+    // By hand, since a step is as long as what a read gave.
     while done < bytes.len() {
         let Ok(n) = input.read(&mut bytes[done..]) else {
             return done;

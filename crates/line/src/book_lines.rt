@@ -64,7 +64,7 @@ pub fn sum_line(buf: &mut [u8], s: Sums) -> Result<usize, Refusal>
     Ok(lent.at)
 }
 
-// The line of a refusal: its number, and the seconds accepted so far.
+// The line of a refusal: its number, which may be any byte, and the seconds accepted so far.
 pub fn refusal_line(buf: &mut [u8], number: u8, seconds: u32) -> Result<usize, Refusal>
     ensures { Lined line_room buf.old buf.new result (refusal_text number seconds) }
 {

@@ -20,7 +20,7 @@ pub use row_lines::{ROW_ROOM, plant_line};
 pub use share_lines::plant_shares;
 pub use short_lines::{plant_counts, plant_short};
 
-// A plant's row in a second, with the letter that its lines name it by.
+// A plant's row in a second, with the letter that its lines name it by: any byte, since the writers put what they get and know no plants (D69).
 #[derive(Clone, Copy)]
 pub struct PlantSecond {
     pub second: u32,

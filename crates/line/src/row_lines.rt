@@ -36,7 +36,8 @@ fn put_kind(lent: &mut Lent, k: KindRow)
     put_field(lent, k.actual);
 }
 
-// The line of a plant's second: its letter, every figure of FCR, aFRR and mFRR, then open.
+// The line of a plant's second: its letter, every figure of FCR, aFRR and mFRR, then open. It begins and ends as the other lines do; one writer for all,
+// over a closure that puts what is between, would hide the order in which a line is read.
 pub fn plant_line(buf: &mut [u8], x: PlantSecond) -> Result<usize, Refusal>
     ensures { Lined row_room buf.old buf.new result (row_text x.second x.letter x.row) }
 {

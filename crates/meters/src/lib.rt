@@ -102,7 +102,7 @@ fn of_two(earlier: Meter, later: Meter) -> Meter
     }
 }
 
-// Which of all counts: a failed one where none is usable.
+// Which of all counts: a failed one where none is usable, as the definition `counting` has it.
 fn of_all(meters: &[Meter]) -> Meter
     ensures { result ≡ counting meters.now }
 {

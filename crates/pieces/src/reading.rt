@@ -119,6 +119,7 @@ impl Reading {
     }
 
     // The next bytes of the book, of any number up to a piece; answers where their text ends, which begins at the buffer's first byte.
+    // The buffer is lent for this call alone, so it comes as it is and no `Lent` stays with the caller; `last_line` likewise.
     pub fn take(&mut self, bytes: &[u8], out: &mut [u8]) -> usize
         requires { (length bytes.now ≤ piece_size) × (piece_room ≤ length out.old) }
         ensures { Takes piece_room out.old out.new result self.new (bytes_in self.old.standing self.old.part bytes.now) }

@@ -15,8 +15,7 @@ use sheet::{FairSheet, Sheet};
 const SIZE: usize = 16;
 
 #[tactic(auto, unfolding(crate::specs::Form::sheet_of))]
-fn sheet_of(s: &[u8]) -> Sheet
-    requires { length s.now ≡ sheet_size }
+fn sheet_of(s: &[u8; SIZE]) -> Sheet
     ensures { result ≡ sheet_of s.now }
 {
     Sheet {
@@ -29,8 +28,7 @@ fn sheet_of(s: &[u8]) -> Sheet
     }
 }
 
-fn is_spare_set(s: &[u8]) -> bool
-    requires { length s.now ≡ sheet_size }
+fn is_spare_set(s: &[u8; SIZE]) -> bool
     ensures { result ≡ spare_set s.now }
 {
     s[5..8] != [0; 3] || s[12..16] != [0; 4]
@@ -40,9 +38,9 @@ fn is_spare_set(s: &[u8]) -> bool
 fn read(s: &[u8]) -> Result<FairSheet, Refusal>
     ensures { figures_told result ≡ read_of s.now }
 {
-    if s.len() != SIZE {
+    let Ok(s) = s.try_into() else {
         return Err(Refusal::Length);
-    }
+    };
     if is_spare_set(s) {
         return Err(Refusal::SpareByte);
     }

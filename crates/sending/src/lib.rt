@@ -54,7 +54,7 @@ pub fn send<W: Write>(output: &mut W, text: &[u8]) -> Result<(), Failure>
     output.write_all(text).map_err(of_write)
 }
 
-// On standard error; where that fails, nothing is left to be done. Where the reader of a pipe has gone, nobody asks.
+// On standard error, by its `Display`; where that fails, nothing is left to be done. Where the reader of a pipe has gone, nobody asks.
 pub fn say(rt: &impl Eprint, failure: Failure) {
     if failure != Failure::ReaderGone {
         let _ = rt.eprintln(failure);
@@ -66,7 +66,7 @@ pub trait Session {
     // What is printed from here on, where these bytes follow.
     ghost rest: { Self → List ℕ → List ℕ };
 
-    // One read, and what is printed of its bytes; whether the input goes on.
+    // One read, and what is printed of its bytes; whether the input goes on: a bool, since its two laws ask just that.
     fn turn<R: Read, W: Write>(&mut self, input: &mut R, output: &mut W) -> Result<bool, Failure>
         ensures went { IfOk result (λ more. IsTrue more → Went (rest self.old) (rest self.new) (R.remaining input.old) (R.remaining input.new) (W.contents output.old) (W.contents output.new)) }
         ensures ended { IfOk result (λ more. IsFalse more → Ended (rest self.old) (rest self.new) (R.remaining input.old) (W.contents output.old) (W.contents output.new)) };

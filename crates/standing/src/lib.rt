@@ -20,7 +20,7 @@ use report::{Form, Kept, Plan, TextLine};
 use sheet::FairSheet;
 
 // Where a book stands between two of its blocks: `next` is the number of the block next in turn, 0 for the header. Before the header the plan
-// has no seconds, so that block 0 is the last one due; it never has more than a book may have. Clauses see it
+// has no seconds, so that block 0 is the last one due and one rule serves the header too; it never has more than a book may have. Clauses see it
 // by `stood`: a Model would give up `Copy`, since a verdict's number doesn't give its refusal back.
 #[derive(Clone, Copy)]
 pub struct Standing {

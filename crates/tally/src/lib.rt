@@ -7,6 +7,8 @@ ghost use Rattle.tally.specs.Tally.{zero, SideWithin, KindWithin, PlantWithin, T
 
 use row::{BandSide, KindCounts, KindRow, PlantCounts, Row, SideCount};
 
+// Of U, A and B. `BookRows` and `Book` have three of their own: alike in these names alone, since one has no method and the other a sheet and sums besides,
+// so that one struct for any type would be no plainer.
 #[derive(Clone, Copy)]
 pub struct Tally {
     pub unit: PlantCounts,

@@ -48,7 +48,7 @@ spare_is s h =
     )
 
 pub returns-then-ne : goal.returns-then-ne
-returns-then-ne c = rw (spare_is c.args.s.now c.requires) (or_first _ _ _ c.ne.ensures (sym c.ne.ensures ∙ c.if-ne.true))
+returns-then-ne c = rw (spare_is c.args.s.now c.told-s) (or_first _ _ _ c.ne.ensures (sym c.ne.ensures ∙ c.if-ne.true))
 
 pub returns-else-ne : goal.returns-else-ne
-returns-else-ne c = rw (spare_is c.args.s.now c.requires) (or_second _ _ _ (sym c.ne.ensures ∙ c.if-ne.false) c.ne-else-ne.ensures)
+returns-else-ne c = rw (spare_is c.args.s.now c.told-s) (or_second _ _ _ (sym c.ne.ensures ∙ c.if-ne.false) c.ne-else-ne.ensures)

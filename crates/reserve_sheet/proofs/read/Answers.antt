@@ -27,13 +27,15 @@ of_figures s h e =
     go false false false true = refl
     go false false false false = refl
 
-pub returns-then-s-ne-SIZE : goal.returns-then-s-ne-SIZE
+pub returns-in_default : goal.returns-in_default
 unfolding read_of form_number
-returns-then-s-ne-SIZE c = rw (ne_eqb (length c.args.s.now) sheet_size c.if-s-ne-SIZE.true)
+returns-in_default c = rw (ne_eqb (length c.args.s.now) sheet_size c.in_default.ensures.1)
 
 pub returns-then-is_spare_set : goal.returns-then-is_spare_set
 unfolding read_of form_number
-returns-then-is_spare_set c = rw (eq-eqb (length c.args.s.now) sheet_size c.if-s-ne-SIZE.false, sym c.is_spare_set.ensures ∙ c.if-is_spare_set.true)
+returns-then-is_spare_set c =
+    let whole = c.in-Ok.ensures.1 in
+    rw (← whole.same, eq-eqb (length c.in-Ok.s.now) sheet_size (ap length whole.same ∙ whole.long), sym c.is_spare_set.ensures ∙ c.if-is_spare_set.true)
 
 -- what is said where the bytes are right
 said : (s : List ℕ) (sh : Sheet) (r : Result FairSheet Refusal) → sh ≡ sheet_of s → form_number s ≡ sheet_number (sheet_of s) → number_in r ≡ sheet_number sh → IfOk r (λ x. x.figures ≡ sh) → figures_told r ≡ read_of s
@@ -43,4 +45,6 @@ said s sh (Err x) e f n k = let m : number_of x ≡ form_number s = n ∙ ap she
 
 pub returns : goal.returns
 returns c =
-    said c.args.s.now _ _ c.sheet_of.ensures (of_figures c.args.s.now c.if-s-ne-SIZE.false (sym c.is_spare_set.ensures ∙ c.if-is_spare_set.false)) c.try_from.ensures.0 c.try_from.ensures.1
+    let whole = c.in-Ok.ensures.1 in
+    let size = ap length whole.same ∙ whole.long in
+    rw (← whole.same) (said c.in-Ok.s.now _ _ c.sheet_of.ensures (of_figures c.in-Ok.s.now size (sym c.is_spare_set.ensures ∙ c.if-is_spare_set.false)) c.try_from.ensures.0 c.try_from.ensures.1)
