@@ -59,11 +59,7 @@ impl LoadSecond {
     fn widen(self, l: Limits) -> Limits
         ensures { result ≡ widened self.setpoint.0 l }
     {
-        let s = in_fifths(self.setpoint);
-        Limits {
-            lower: l.lower.smaller(s),
-            upper: l.upper.larger(s),
-        }
+        l.spanning(Limits::point(in_fifths(self.setpoint)))
     }
 
     // The band's limits: 0 and 0 of a load that is off.
@@ -74,10 +70,7 @@ impl LoadSecond {
         if self.is_on() {
             self.widen(l)
         } else {
-            Limits {
-                lower: Grains(0),
-                upper: Grains(0),
-            }
+            Limits::point(Grains(0))
         }
     }
 }

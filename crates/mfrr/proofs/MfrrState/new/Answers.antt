@@ -5,4 +5,4 @@ use Rattle.mfrr.proofs.Ready.{fresh, fresh_is}
 use Rattle.mfrr.proofs.MfrrState.new.Goals as goal
 
 pub returns : goal.returns
-returns c = record { is = λ sh. sym (fresh_is sh); ready = λ sh. subst (Ready sh) (fresh_is sh) (fresh sh) }
+returns c = rw c.point.ensures (record { is = λ sh. sym (fresh_is sh); ready = λ sh. subst (Ready sh) (fresh_is sh) (fresh sh) })
