@@ -22,6 +22,14 @@ owner_of s = get_or s owner_at 0
 abbrev pub seconds_of : List ℕ → ℕ
 seconds_of s = u32_at s book_seconds_at
 
+-- "16 owner above 7; 17 seconds 0 or above 90,000"
+abbrev pub fields_rules : ℕ → ℕ → List Rule
+fields_rules owner seconds =
+    refuse 16 (ltb all_kinds owner) ∷ refuse 17 (eqb seconds 0) ∷ refuse 17 (ltb most_seconds seconds) ∷ []
+
+unfoldable pub fields_number : ℕ → ℕ → ℕ
+fields_number owner seconds = first (fields_rules owner seconds)
+
 -- "12 length not 512; 13 check; 14 first bytes; 15 version; 16 owner above 7; 17 seconds 0 or above 90,000; 18 a spare byte not 0"
 abbrev pub header_rules : List ℕ → List Rule
 header_rules s =

@@ -1,7 +1,8 @@
 // The header: 0-3 'RLIW', 4-5 version 1, 6 owner, 8-11 seconds in the book. All else is 0.
 ghost use Rattle.std.specs.Prelude.{◌≡◌};
 ghost use Rattle.codec.specs.Little.{u32_at};
-ghost use Rattle.block.specs.Header.{name, header_of, header_says};
+ghost use Rattle.refusals.specs.Refusals.{number_in};
+ghost use Rattle.block.specs.Header.{name, fields_number, header_of, header_says};
 
 use crate::bytes::{check_of, is_zero};
 use crate::{CHECK_AT, Header, SIZE};
@@ -32,8 +33,24 @@ fn first_bytes() -> u32
     codec::read_u32(NAME, 0)
 }
 
+impl Header {
+    // The first rule that its fields break.
+    #[tactic(auto, using(std::proofs::lemmas::Bool::Decides::nat_tests), unfolding(crate::specs::Header::fields_number))]
+    pub(crate) fn check(self) -> Result<(), Refusal>
+        ensures { number_in result ≡ fields_number self.owner self.seconds }
+    {
+        if self.owner > record::ALL_KINDS {
+            return Err(Refusal::Owner);
+        }
+        if self.seconds == 0 || self.seconds > record::MOST_SECONDS {
+            return Err(Refusal::BookSeconds);
+        }
+        Ok(())
+    }
+}
+
 // Owner and seconds of the header, or the first rule that it breaks.
-#[tactic(auto, using(std::proofs::lemmas::Bool::Decides::nat_tests), unfolding(crate::specs::Header::header_number))]
+#[tactic(auto, using(std::proofs::lemmas::Bool::Decides::nat_tests), unfolding(crate::specs::Header::header_number, crate::specs::Header::fields_number))]
 pub fn read_header(s: &[u8]) -> Result<Header, Refusal>
     ensures { header_says result ≡ header_of s.now }
 {
@@ -49,16 +66,13 @@ pub fn read_header(s: &[u8]) -> Result<Header, Refusal>
     if codec::read_u16(s, VERSION_AT) != VERSION {
         return Err(Refusal::Version);
     }
-    let owner = s[OWNER_AT];
-    if owner > record::ALL_KINDS {
-        return Err(Refusal::Owner);
-    }
-    let seconds = codec::read_u32(s, BOOK_SECONDS_AT);
-    if seconds == 0 || seconds > record::MOST_SECONDS {
-        return Err(Refusal::BookSeconds);
-    }
+    let header = Header {
+        owner: s[OWNER_AT],
+        seconds: codec::read_u32(s, BOOK_SECONDS_AT),
+    };
+    header.check()?;
     if s[SPARE_AT] != 0 || !is_zero(&s[END..CHECK_AT]) {
         return Err(Refusal::SpareByte);
     }
-    Ok(Header { owner, seconds })
+    Ok(header)
 }

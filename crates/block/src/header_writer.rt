@@ -24,17 +24,12 @@ fn put_header(block: &mut [u8; SIZE], header: Header)
 }
 
 // A book's header. Where a rule stands against it, the first that does, and the buffer stays as it was.
-#[tactic(auto, unfolding(crate::specs::Writing::write_header_number))]
+#[tactic(auto, unfolding(crate::specs::Writing::write_header_number, crate::specs::Header::fields_number))]
 pub fn write_header(buf: &mut [u8], header: Header) -> Result<(), Refusal>
     ensures { record { said = written_says result; buffer = buf.new } ≡ header_written buf.old header.owner header.seconds }
 {
     let block = buf.as_mut_array().ok_or(Refusal::Length)?;
-    if header.owner > record::ALL_KINDS {
-        return Err(Refusal::Owner);
-    }
-    if header.seconds == 0 || header.seconds > record::MOST_SECONDS {
-        return Err(Refusal::BookSeconds);
-    }
+    header.check()?;
     put_header(block, header);
     Ok(())
 }

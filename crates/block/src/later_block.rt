@@ -23,7 +23,7 @@ pub(crate) const SECOND: usize = record::BOOK_SIZE;
 // The seconds of a block that is not the last.
 pub const PER_BLOCK: usize = 4;
 
-// The number of the last block of a book.
+// The number of the last block of a book. Asked in a clause: a header to be written may give any number of seconds, so `Header` says nothing of them.
 pub fn last_block(seconds: u32) -> u32
     requires { seconds ≤ most_seconds }
     ensures { (result ≡ last_block seconds) × (result ≤ most_seconds) }

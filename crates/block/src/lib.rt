@@ -19,7 +19,7 @@ pub const SIZE: usize = 512;
 
 pub const CHECK_AT: usize = 508;
 
-// What the header gives: the owner byte, and the seconds in the book.
+// What the header gives: the owner byte, and the seconds in the book. The owner is a byte: any may come, and one above 7 is refused (D69).
 #[derive(Clone, Copy, Debug, PartialEq, Eq)]
 pub struct Header {
     pub owner: u8,

@@ -1,11 +1,14 @@
 -- The seconds of a block in turn: one second's answer, and what the seconds so far added. Assumes nothing.
-use Rattle.std.proofs.Common.{◌≡◌, ℕ, ◌+◌, ◌*◌, ◌≤◌, ◌<◌, List, [], ◌∷◌, ◌++◌, length, drop, get_or, refl, ap, ◌∙◌, arith, append_assoc, append-nil, add-one, drop-cons}
+use Rattle.std.proofs.Common.{Result, Ok, Err, subst, ◌≡◌, ℕ, ◌+◌, ◌*◌, ◌≤◌, ◌<◌, List, [], ◌∷◌, ◌++◌, length, drop, get_or, refl, ap, ◌∙◌, arith, append_assoc, append-nil, add-one, drop-cons}
 use Rattle.row.specs.declared.Row.{Row}
+use Rattle.std.specs.Result.{MatchResult, IsErrAnd}
+use Rattle.refusals.specs.declared.Refusal.{Refusal}
 use Rattle.refusals.specs.Refusals.{number_of}
+use Rattle.book.specs.declared.BookRows.{BookRows}
 use Rattle.book.specs.declared.Book.{Book}
 use Rattle.book.specs.declared.BookRefusal.{BookRefusal}
 use Rattle.book.specs.declared.BookRefusal.TheVariants.{Form, Of}
-use Rattle.book.specs.Answers.{BookStep, Rows, refusal_in, refusal_told}
+use Rattle.book.specs.Answers.{BookStep, Rows, refusal_in, book_told}
 use Rattle.book.specs.State.{Stepped}
 use Rattle.book.specs.State as book
 use Rattle.block.specs.Places.{per_block}
@@ -44,10 +47,19 @@ module _ (p : Plan) (k : Kept) (s : List ℕ) {r : BookStep} (f : Stepped k.book
   pub turned_down_ready : KeptReady k → KeptReady (keep r.book k.tally)
   turned_down_ready ready = record { book = f.ready; counts = longer _ _ counted.least k.tally ready.counts }
 
--- a refusal of the book by its number
-pub refusal_is : (p : Plan) (k : Kept) (b : Book) (e : BookRefusal) → answered p k b (refusal_told e) ≡ refused_at (keep b k.tally) (number_of (refusal_in e))
-refusal_is p k b (Form e) = refl
-refusal_is p k b (Of who e) = refl
+-- m is the book's result q with its refusal alone
+abbrev pub Alone : Result BookRows BookRefusal → Result BookRows Refusal → Type 0
+Alone q m = MatchResult q (λ x. m ≡ Ok x) (λ e. IsErrAnd m (λ r. r ≡ refusal_in e))
+
+module _ {m : Result BookRows Refusal} where
+  pub rows_of : {x : BookRows} (q : Result BookRows BookRefusal) → Alone q m → m ≡ Ok x → q ≡ Ok x
+  rows_of (Ok y) h e = cc
+  rows_of (Err b) h e = absurd (subst (λ r. IsErrAnd r (λ r. r ≡ refusal_in b)) e h)
+
+  pub refusal_is : (p : Plan) (k : Kept) (b : Book) {y : Refusal} (q : Result BookRows BookRefusal) → Alone q m → m ≡ Err y → answered p k b (book_told q) ≡ refused_at (keep b k.tally) (number_of y)
+  refusal_is p k b (Ok x) h e = cc
+  refusal_is p k b (Err (Form f)) h e = rw (subst (λ r. IsErrAnd r (λ r. r ≡ f)) e h) refl
+  refusal_is p k b (Err (Of who f)) h e = rw (subst (λ r. IsErrAnd r (λ r. r ≡ f)) e h) refl
 
 -- ---- the seconds so far, and those that are left
 

@@ -10,7 +10,8 @@ pub use lines::{TextLine, add, add_counts};
 pub use run::{Kept, Plan};
 
 // What a second is printed as: one line with the actual values; a line a plant with every figure of its row; a line for each kind outside its
-// band, and at the end how often each was; or a line a plant with what was shared and how each share was rounded.
+// band, and at the end how often each was; or a line a plant with what was shared and how each share was rounded. Each `match` over it is over
+// all forms.
 #[derive(Clone, Copy)]
 pub enum Form {
     Line,

@@ -29,6 +29,7 @@ pub enum TextLine {
     },
     Short(PlantSecond),
     Counts {
+        // A byte, as `line` takes it (D69).
         letter: u8,
         counts: PlantCounts,
     },
@@ -88,35 +89,34 @@ pub fn add_counts(text: &mut Lent, form: Form, tally: Tally)
     }
 }
 
+// The lines of U, A and B in an accepted second, each the variant `line` of its row.
+fn add_rows<F: Fn(PlantSecond) -> TextLine>(text: &mut Lent, second: u32, rows: BookRows, line: F)
+    requires callable { F.IsAlwaysCallable line }
+    requires room { HasRoom second_room text.old }
+    ensures { PlantsPut (λ letter row. F.post line (record { second = second; letter = letter; row = row })) rows.unit rows.a rows.b text.old text.new }
+{
+    let BookRows { unit, a, b } = rows;
+    add_plants(text, (unit, a, b), |letter, row| {
+        line(PlantSecond {
+            second,
+            letter,
+            row,
+        })
+    });
+}
+
 // The lines of an accepted second.
 pub(crate) fn add_second(text: &mut Lent, form: Form, second: u32, rows: BookRows)
     requires { HasRoom second_room text.old }
     ensures { Grown second_room text.old text.new (lines_of form second rows.unit rows.a rows.b) }
 {
-    let BookRows { unit, a, b } = rows;
-    let plants = (unit, a, b);
     match form {
-        Form::Line => add(text, TextLine::Second { second, unit, a, b }),
-        Form::Figures => add_plants(text, plants, |letter, row| {
-            TextLine::Plant(PlantSecond {
-                second,
-                letter,
-                row,
-            })
-        }),
-        Form::Short => add_plants(text, plants, |letter, row| {
-            TextLine::Short(PlantSecond {
-                second,
-                letter,
-                row,
-            })
-        }),
-        Form::Shares => add_plants(text, plants, |letter, row| {
-            TextLine::Shares(PlantSecond {
-                second,
-                letter,
-                row,
-            })
-        }),
+        Form::Line => {
+            let BookRows { unit, a, b } = rows;
+            add(text, TextLine::Second { second, unit, a, b });
+        }
+        Form::Figures => add_rows(text, second, rows, TextLine::Plant),
+        Form::Short => add_rows(text, second, rows, TextLine::Short),
+        Form::Shares => add_rows(text, second, rows, TextLine::Shares),
     }
 }

@@ -10,7 +10,7 @@ ghost use Rattle.report.specs.Running.{verdict_told, second_in, seconds_in, bloc
 
 use crate::Form;
 use crate::lines::add_second;
-use book::Book;
+use book::{Book, BookRefusal};
 use codec::Lent;
 use record::BOOK_SIZE;
 use refusals::Refusal;
@@ -55,16 +55,16 @@ impl Kept {
         }
     }
 
-    // One book second: its lines, or its refusal.
+    // One book second: its lines, or its refusal. The plan stays a parameter: what is kept moves on from second to second, the plan never does.
     pub fn run_second(&mut self, plan: Plan, bytes: &[u8], text: &mut Lent) -> Result<(), Refusal>
         requires { HasRoom second_room text.old }
         ensures { Adds second_room text.old text.new self.new (verdict_told result) (second_in plan self.old bytes.now) }
     {
         let second = self.book.unit.seconds;
-        let rows = match self.book.second(plan.owner, bytes) {
-            Ok(rows) => rows,
-            Err(refusal) => return Err(refusal.refusal()),
-        };
+        let rows = self
+            .book
+            .second(plan.owner, bytes)
+            .map_err(BookRefusal::refusal)?;
         self.tally = self.tally.with_second(rows.unit, rows.a, rows.b);
         add_second(text, plan.form, second, rows);
         Ok(())
