@@ -3,7 +3,7 @@ use Rattle.std.proofs.Common.{Bool, true, false, IfSome}
 use Rattle.power.specs.declared.kilowatts.Kw.{Kw}
 use Rattle.power.specs.declared.limits.Band.{Band}
 use Rattle.power.specs.declared.limits.BandedSetpoint.{BandedSetpoint}
-use Rattle.plant.specs.Rows.{kind_if}
+use Rattle.sharing.specs.Rows.{kind_if}
 
 pub if_on : (P : BandedSetpoint → Type 0) (on : Bool) (s : Kw) (b : Band) → P (record { setpoint = s; band = b }) → IfSome (kind_if on s b) P
 unfolding kind_if

@@ -7,8 +7,9 @@ use Rattle.mfrr.specs.Signal.{is_resting, last_of, through, phase_at, ramp_part,
 use Rattle.mfrr.specs.Leftovers.{ended, leftovers, counting}
 use Rattle.mfrr.specs.Refusals.{target_out, end_out, ninth, call_rules, rules_at}
 use Rattle.mfrr.specs.State.{second_of}
+use Rattle.sharing.specs.Rows.{kind_if}
 use Rattle.plant.specs.Refusals.{held_out, deviation_out, power_out, setpoint_out, call_filled, call_out, kind_moved, any_moved, status_moved, record_number, off_moves, off_number, record_number_at, number_at}
-use Rattle.plant.specs.Rows.{kind_if, kinds_with}
+use Rattle.plant.specs.Rows.{kinds_with}
 use Rattle.plant.specs.Values.{Values}
 
 values : Values

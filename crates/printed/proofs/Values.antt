@@ -15,9 +15,9 @@ use Rattle.mfrr.specs.Band as mfrr_band_is
 use Rattle.mfrr.specs.Refusals.{refusal, rules_at}
 use Rattle.mfrr.specs.State.{second_of}
 use Rattle.sharing.specs.Shares.{parts}
-use Rattle.sharing.specs.Rows.{kind_rows, open_of, row_of}
+use Rattle.sharing.specs.Rows.{kind_if, kind_rows, open_of, row_of}
 use Rattle.plant.specs.Refusals as plant-refusals
-use Rattle.plant.specs.Rows.{kind_if, kinds_with, kinds_at, row_at}
+use Rattle.plant.specs.Rows.{kinds_with, kinds_at, row_at}
 use Rattle.book.specs.Seconds.{due_of}
 use Rattle.book.specs.Refusals as book-refusals
 use Rattle.book.specs.Rows.{values_of, unit_row_at, pool_row_at}
