@@ -7,7 +7,7 @@ use Rattle.power.specs.Units.{kw, grains}
 use Rattle.abla.specs.declared.load.LoadSecond.{LoadSecond}
 use Rattle.abla.specs.declared.stage.Stage.{Stage}
 use Rattle.abla.specs.declared.stage.Stage.TheVariants.{Holding, Called, Returning}
-use Rattle.abla.specs.Calls.{History, flagged, is_quick, flagged_last, Call, no_call, begun, longer, latest, since, quarter_hour, hour, in_first, in_return}
+use Rattle.abla.specs.Calls.{History, flagged, flagged_last, Call, no_call, begun, longer, latest, since, quarter_hour, hour, in_first, in_return}
 use Rattle.abla.proofs.Runs.{goes_on, begins, some}
 use Rattle.abla.specs.Band.{setpoint_of, lower_of, lower_before, ramp_of, returning, holds, stage_limits, limits_at, band_at}
 use Rattle.abla.specs.Refusals.{is_blank, rules_at, refusal}
@@ -34,7 +34,7 @@ no_call_lem x h f = rw f
 
 -- the stage of a call that the newest second is in
 abbrev in_call : Call → Stage
-in_call c = Called (is_quick c.first.class) (min c.seconds hour) (ramp_of c)
+in_call c = Called c.first.class (min c.seconds hour) (ramp_of c)
 
 longer_stage : (c : Call) (h : History) (x : LoadSecond) → flagged_in (in_call c) (grains (lower_before h)) x ≡ in_call (longer c)
 unfolding flagged_in longer ramp_of

@@ -88,7 +88,7 @@ module _ (s : AblaState) (r : Ready s) (x : LoadSecond) (f : Fair x) where
   unfolding flagged_in
   flagged_ready Blank q = begun_ready
   flagged_ready Holding q = begun_ready
-  flagged_ready (Called quick seconds ramp) q = q
+  flagged_ready (Called class seconds ramp) q = q
   flagged_ready (Returning since ramp) q = begun_ready
 
   over_ready : (b : Bool) (k : ℕ) (l : Limits) → LimitsReady l → StageReady (cond b (Returning k l) Holding)
@@ -99,7 +99,7 @@ module _ (s : AblaState) (r : Ready s) (x : LoadSecond) (f : Fair x) where
   unfolding unflagged_in
   unflagged_ready Blank q = tt
   unflagged_ready Holding q = tt
-  unflagged_ready (Called quick seconds ramp) q = over_ready (ltb seconds hour) 1 ramp q
+  unflagged_ready (Called class seconds ramp) q = over_ready (ltb seconds hour) 1 ramp q
   unflagged_ready (Returning since ramp) q = over_ready (ltb since quarter_hour) (since + 1) ramp q
 
   stage_ready : StageReady (stage_in s x)
@@ -121,15 +121,15 @@ module _ (s : AblaState) (r : Ready s) (x : LoadSecond) (f : Fair x) where
   first_ready false l q = called_ready x f
 
   -- in a call
-  call_limits : (quick : Bool) (seconds : ℕ) (ramp : Limits) → LimitsReady ramp → LimitsReady (limits_in (Called quick seconds ramp) x)
+  call_limits : (class : ℕ) (seconds : ℕ) (ramp : Limits) → LimitsReady ramp → LimitsReady (limits_in (Called class seconds ramp) x)
   unfolding limits_in
-  call_limits quick seconds ramp q = first_ready (first_in quick seconds) ramp q
+  call_limits class seconds ramp q = first_ready (first_in class seconds) ramp q
 
   flagged_limits : (p : Stage) → StageReady p → LimitsReady (limits_in (flagged_in p s.before x) x)
   unfolding flagged_in begun_in
   flagged_limits Blank q = call_limits _ _ _ begun_ready
   flagged_limits Holding q = call_limits _ _ _ begun_ready
-  flagged_limits (Called quick seconds ramp) q = call_limits _ _ _ q
+  flagged_limits (Called class seconds ramp) q = call_limits _ _ _ q
   flagged_limits (Returning since ramp) q = call_limits _ _ _ begun_ready
 
   -- and in none
@@ -142,7 +142,7 @@ module _ (s : AblaState) (r : Ready s) (x : LoadSecond) (f : Fair x) where
   unfolding unflagged_in limits_in holding_in
   unflagged_limits Blank q p = holding_ready x f (p refl)
   unflagged_limits Holding q p = holding_ready x f (p refl)
-  unflagged_limits (Called quick seconds ramp) q p = over_limits (ltb seconds hour) 1 ramp q p
+  unflagged_limits (Called class seconds ramp) q p = over_limits (ltb seconds hour) 1 ramp q p
   unflagged_limits (Returning since ramp) q p = over_limits (ltb since quarter_hour) (since + 1) ramp q p
 
   limits_ready : (holds_in s x ≡ true → PointIn x) → LimitsReady (limits_in (stage_in s x) x)

@@ -25,7 +25,7 @@ unfoldable pub stage_of : History → Stage
 stage_of [] = Blank
 stage_of (x ∷ h) =
     cond (flagged x)
-    (Called (is_quick (latest (x ∷ h)).first.class) (min (latest (x ∷ h)).seconds hour) (ramp_of (latest (x ∷ h))))
+    (Called (latest (x ∷ h)).first.class (min (latest (x ∷ h)).seconds hour) (ramp_of (latest (x ∷ h))))
     (cond (returning (x ∷ h)) (Returning (since (x ∷ h)) (ramp_of (latest (x ∷ h)))) Holding)
 
 unfoldable pub state_of : History → AblaState
@@ -48,7 +48,7 @@ pub record LimitsReady (l : Limits) : Type 0 where
 abbrev pub StageReady : Stage → Type 0
 StageReady Blank = Unit
 StageReady Holding = Unit
-StageReady (Called quick seconds ramp) = LimitsReady ramp
+StageReady (Called class seconds ramp) = LimitsReady ramp
 StageReady (Returning since ramp) = LimitsReady ramp
 
 -- a clause and no invariant of the type: `state_of` is also of pasts that were not accepted, whose states are not ready
@@ -88,19 +88,19 @@ more n = cond (ltb n hour) (n + 1) n
 
 -- the stage at second x with a set flag: its call goes on, or it begins
 unfoldable pub begun_in : Grains → LoadSecond → Stage
-begun_in before x = Called (is_quick x.class) 1 (record { lower = before; upper = grains (called_upper x) })
+begun_in before x = Called x.class 1 (record { lower = before; upper = grains (called_upper x) })
 
 unfoldable pub flagged_in : Stage → Grains → LoadSecond → Stage
 flagged_in Blank before x = begun_in before x
 flagged_in Holding before x = begun_in before x
-flagged_in (Called quick seconds ramp) before x = Called quick (more seconds) ramp
+flagged_in (Called class seconds ramp) before x = Called class (more seconds) ramp
 flagged_in (Returning since ramp) before x = begun_in before x
 
 -- and at a second without: "for 900 seconds after any call under one hour"
 unfoldable pub unflagged_in : Stage → Stage
 unflagged_in Blank = Holding
 unflagged_in Holding = Holding
-unflagged_in (Called quick seconds ramp) = cond (ltb seconds hour) (Returning 1 ramp) Holding
+unflagged_in (Called class seconds ramp) = cond (ltb seconds hour) (Returning 1 ramp) Holding
 unflagged_in (Returning since ramp) = cond (ltb since quarter_hour) (Returning (since + 1) ramp) Holding
 
 unfoldable pub stage_in : AblaState → LoadSecond → Stage
@@ -109,24 +109,24 @@ stage_in s x = cond (flagged x) (flagged_in s.stage s.before x) (unflagged_in s.
 unfoldable pub blank_in : Stage → Bool
 blank_in Blank = true
 blank_in Holding = false
-blank_in (Called quick seconds ramp) = false
+blank_in (Called class seconds ramp) = false
 blank_in (Returning since ramp) = false
 
 unfoldable pub holding_in : Stage → Bool
 holding_in Blank = false
 holding_in Holding = true
-holding_in (Called quick seconds ramp) = false
+holding_in (Called class seconds ramp) = false
 holding_in (Returning since ramp) = false
 
 -- among "the first 900 seconds of a quick call"
-unfoldable pub first_in : Bool → ℕ → Bool
-first_in quick seconds = quick && leb seconds quarter_hour
+unfoldable pub first_in : ℕ → ℕ → Bool
+first_in class seconds = is_quick class && leb seconds quarter_hour
 
 -- the limits at second x in a stage, not widened
 unfoldable pub limits_in : Stage → LoadSecond → Limits
 limits_in Blank x = holding x
 limits_in Holding x = holding x
-limits_in (Called quick seconds ramp) x = cond (first_in quick seconds) ramp (called x)
+limits_in (Called class seconds ramp) x = cond (first_in class seconds) ramp (called x)
 limits_in (Returning since ramp) x = ramp
 
 -- "no call and no return ramp" at second x

@@ -1,6 +1,6 @@
 // A load's second (02, W10): its five fields and the unit's working point, and the limits that they give by themselves.
 ghost use Rattle.std.specs.Prelude.{◌≡◌};
-ghost use Rattle.abla.specs.Calls.{is_on, flagged, is_quick};
+ghost use Rattle.abla.specs.Calls.{is_on, flagged};
 ghost use Rattle.abla.specs.Band.{lowest_point, holding_lower, holding, called_upper, called, lower_of, widened, limits_on};
 ghost use Rattle.abla.specs.State.{Fields, Fair};
 
@@ -36,13 +36,6 @@ impl LoadSecond {
         ensures { result ≡ flagged self }
     {
         self.flag == 1
-    }
-
-    #[tactic(auto, unfolding(crate::specs::Calls::is_quick))]
-    pub(crate) fn is_quick(self) -> bool
-        ensures { result ≡ is_quick self.class }
-    {
-        self.class == 1
     }
 
     // The lowest working point of a load that holds: the minimum consumption and a fifth of the awarded power.

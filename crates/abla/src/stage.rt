@@ -6,6 +6,9 @@ ghost use Rattle.abla.specs.State.{more, begun_in, flagged_in, unflagged_in, hol
 use crate::load::FairSecond;
 use power::{Grains, Limits};
 
+// The class of a quick call.
+const QUICK: u8 = 1;
+
 // The seconds of either ramp.
 const QUARTER_HOUR: u32 = 900;
 
@@ -19,8 +22,8 @@ pub enum Stage {
     Blank,
     Holding,
     Called {
-        // By the class of the call's first second.
-        quick: bool,
+        // That of the call's first second.
+        class: u8,
         // The call's set flags so far, counted up to one hour.
         seconds: u32,
         // The limits of both ramps.
@@ -42,11 +45,11 @@ fn one_more(n: u32) -> u32
 }
 
 // The call that this second goes on with.
-fn longer(quick: bool, seconds: u32, ramp: Limits) -> Stage
-    ensures { result ≡ Called quick (more seconds) ramp }
+fn longer(class: u8, seconds: u32, ramp: Limits) -> Stage
+    ensures { result ≡ Called class (more seconds) ramp }
 {
     Stage::Called {
-        quick,
+        class,
         seconds: one_more(seconds),
         ramp,
     }
@@ -58,7 +61,7 @@ fn begun(before: Grains, x: FairSecond) -> Stage
     ensures { result ≡ begun_in before x.second }
 {
     Stage::Called {
-        quick: x.second.is_quick(),
+        class: x.second.class,
         seconds: 1,
         ramp: Limits {
             lower: before,
@@ -82,10 +85,10 @@ impl Stage {
     {
         match self {
             Stage::Called {
-                quick,
+                class,
                 seconds,
                 ramp,
-            } => longer(quick, seconds, ramp),
+            } => longer(class, seconds, ramp),
             Stage::Blank | Stage::Holding | Stage::Returning { .. } => begun(before, x),
         }
     }
@@ -108,17 +111,17 @@ impl Stage {
     }
 
     // The limits at second `x`, which is in this stage.
-    #[tactic(auto, unfolding(crate::specs::State::limits_in, crate::specs::State::first_in))]
+    #[tactic(auto, unfolding(crate::specs::State::limits_in, crate::specs::State::first_in, crate::specs::Calls::is_quick))]
     pub(crate) fn limits(self, x: FairSecond) -> Limits
         ensures { result ≡ limits_in self x.second }
     {
         match self {
             Stage::Blank | Stage::Holding => x.holding(),
             Stage::Called {
-                quick,
+                class,
                 seconds,
                 ramp,
-            } if quick && seconds <= QUARTER_HOUR => ramp,
+            } if class == QUICK && seconds <= QUARTER_HOUR => ramp,
             Stage::Called { .. } => x.called(),
             Stage::Returning { ramp, .. } => ramp,
         }

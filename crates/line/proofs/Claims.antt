@@ -10,7 +10,7 @@ use Rattle.line.specs.Widths.{line_room, row_room, plant_width, kind_width, roun
 use Rattle.line.specs.Line.{plant_text, second_text, sum_text, refusal_text, kind_text, row_text}
 use Rattle.row.specs.Fits.{Rounding32, Kind32, Row32, Sums64}
 use Rattle.line.specs.Claims.{Lengths, Examples}
-use Rattle.line.proofs.Printed.{digits_by}
+use Rattle.line.proofs.Digits.{digits_by}
 use Rattle.row.specs.Side.{side_of}
 use Rattle.line.specs.Short.{outside_text, short_text, side_count_text, kind_counts_text, counts_text}
 use Rattle.line.specs.Shares.{rounding_text, roundings_text, shares_text}
@@ -110,6 +110,6 @@ examples =
       every_part = refl;
       short = refl;
       counts = refl;
-      least_32 = ap (λ (l : List ℕ). ascii "-" ++ l) (digits_by 9 2147483648 (lit< tt) (lit< tt));
-      least_64 = ap (λ (l : List ℕ). ascii "-" ++ l) (digits_by 18 9223372036854775808 (lit< tt) (lit< tt));
+      least_32 = ap (λ (l : List ℕ). ascii "-" ++ l) (digits_by 9 2147483648 (lit< tt));
+      least_64 = ap (λ (l : List ℕ). ascii "-" ++ l) (digits_by 18 9223372036854775808 (lit< tt));
     }

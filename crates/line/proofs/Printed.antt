@@ -1,7 +1,7 @@
 -- What the library prints of a number is its text. Assumes nothing.
-use Rattle.std.proofs.Common.{◌≡◌, ℕ, suc, ◌^◌, ◌<◌, List, ◌∷◌, ℤ, pos, negsuc, nat_abs, SFits, w64, sym, ap, ◌∙◌, arith, lt-ltb, le-ltb}
+use Rattle.std.proofs.Common.{◌≡◌, ℕ, suc, ◌^◌, ◌<◌, List, ◌∷◌, ℤ, pos, negsuc, nat_abs, SFits, w64, sym, ap, arith, lt-ltb, le-ltb}
 use Rattle.std.specs.Fmt.{decimal as printed, signed_decimal}
-use Rattle.std.proofs.lemmas.Fmt.{AppendsLastDigit, decimal_from_appends, length-decimal-le, length-decimal-le_succ}
+use Rattle.std.proofs.lemmas.Fmt.{AppendsLastDigit, decimal_from_appends, length-decimal-le_succ}
 use Rattle.std.specs.Int.Signed.{nat_abs-le}
 use Rattle.codec.specs.declared.lent.Lent.{Lent}
 use Rattle.codec.specs.Lent.{Grown}
@@ -23,7 +23,3 @@ signed_is (negsuc n) h = ap (λ (l : List ℕ). 45 ∷ l) (printed_is _ h)
 -- what is put, printed by the library, is the text of z where z is the number that it was given
 pub shown : {m : ℕ} {t u : Lent} {y : ℤ} (z : ℤ) → Grown m t u (signed_decimal y) → y ≡ z → SFits w64 z → Grown m t u (decimal z)
 shown z f i h = rw (i, signed_is z (omega (arith, nat_abs-le z h.sfits))) at f
-
--- below 10 ^ k, k turns are enough: so a large number's digits compute
-pub digits_by : (k n : ℕ) → n < 10 ^ suc k → n < 2 ^ 64 → digits n ≡ digits_in (suc k) n
-digits_by k n h l = sym (printed_is n l) ∙ sym (decimal_from_appends digits_in last_digit (suc k) n l (length-decimal-le (suc k) n (omega arith) h l))
