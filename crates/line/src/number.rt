@@ -47,6 +47,7 @@ fn count_digits(n: u64) -> usize
 }
 
 // A number's digits, which the library writes where they go: from a buffer of its own they would have to be copied.
+#[inline(always)]
 pub(crate) fn put_digits(lent: &mut Lent, n: u64)
     requires { HasRoom (length (digits n)) lent.old }
     ensures { Grown (length (digits n)) lent.old lent.new (digits n) }
@@ -64,6 +65,7 @@ fn is_negative(n: i64) -> bool
 }
 
 // A number in decimal.
+#[inline(always)]
 pub(crate) fn put_number(lent: &mut Lent, n: i64)
     requires { HasRoom (length (decimal n)) lent.old }
     ensures { Grown (length (decimal n)) lent.old lent.new (decimal n) }
@@ -78,6 +80,7 @@ pub(crate) fn put_number(lent: &mut Lent, n: i64)
 }
 
 // A refusal number, or a number of seconds.
+#[inline(always)]
 pub fn put_count(lent: &mut Lent, n: u32)
     requires { HasRoom count_width lent.old }
     ensures { Grown count_width lent.old lent.new (digits n) }
@@ -86,6 +89,7 @@ pub fn put_count(lent: &mut Lent, n: u32)
 }
 
 // A space and a number that has no sign.
+#[inline(always)]
 pub(crate) fn put_unsigned(lent: &mut Lent, n: u32)
     requires { HasRoom unsigned_width lent.old }
     ensures { Grown unsigned_width lent.old lent.new (unsigned n) }
@@ -95,6 +99,7 @@ pub(crate) fn put_unsigned(lent: &mut Lent, n: u32)
 }
 
 // A space and the figure's number.
+#[inline(always)]
 pub fn put_field<T: Figure>(lent: &mut Lent, x: T)
     requires { HasRoom field_width lent.old }
     ensures { Grown field_width lent.old lent.new (field (T.value x)) }
