@@ -12,7 +12,7 @@ count_most n h = rw (← printed_is n (omega arith)) (length-decimal-le 10 n (om
 pub amount_most : (n : ℕ) → n < 2 ^ 64 → length (digits n) ≤ sum_width
 amount_most n h = rw (← printed_is n h) (length-decimal-le 20 n (omega arith) (omega arith) h)
 
-decimal_32 : (z : ℤ) → SFits w32 z → length (decimal z) ≤ 11
+pub decimal_32 : (z : ℤ) → SFits w32 z → length (decimal z) ≤ 11
 decimal_32 z f =
     let m = f.sfits in
     rw (← signed_is z (omega (arith, nat_abs-le z f.sfits))) (length_signed_le 10 z (omega arith) (omega arith))

@@ -1,9 +1,10 @@
 -- What the library prints of a number is its text. Assumes nothing.
-use Rattle.std.proofs.Common.{◌≡◌, ℕ, suc, ◌^◌, ◌<◌, List, ◌∷◌, ℤ, pos, negsuc, nat_abs, SFits, w64, sym, ap, arith, lt-ltb, le-ltb}
+use Rattle.std.proofs.Common.{◌≡◌, ℕ, suc, ◌+◌, ◌^◌, ◌<◌, ◌≤◌, List, ◌∷◌, ◌++◌, length, take, drop, take-append-drop, ℤ, pos, negsuc, nat_abs, SFits, w64, sym, ap, ◌∙◌, arith, lt-ltb, le-ltb}
 use Rattle.std.specs.Fmt.{decimal as printed, signed_decimal}
 use Rattle.std.proofs.lemmas.Fmt.{AppendsLastDigit, decimal_from_appends, length-decimal-le_succ}
 use Rattle.std.specs.Int.Signed.{nat_abs-le}
 use Rattle.codec.specs.declared.lent.Lent.{Lent}
+use Rattle.codec.specs.Put.{Put}
 use Rattle.codec.specs.Lent.{Grown}
 use Rattle.line.specs.Text.{digits_in, digits, decimal}
 
@@ -20,6 +21,13 @@ unfolding decimal
 signed_is (pos n) h = printed_is n h
 signed_is (negsuc n) h = ap (λ (l : List ℕ). 45 ∷ l) (printed_is _ h)
 
--- what is put, printed by the library, is the text of z where z is the number that it was given
-pub shown : {m : ℕ} {t u : Lent} {y : ℤ} (z : ℤ) → Grown m t u (signed_decimal y) → y ≡ z → SFits w64 z → Grown m t u (decimal z)
-shown z f i h = rw (i, signed_is z (omega (arith, nat_abs-le z h.sfits))) at f
+-- a text written up to its end, where that is as far on as the text is long
+pub placed : (b e : List ℕ) (at r n : ℕ) (text : List ℕ) → n ≡ length text → at + n ≤ length b → r + length text ≡ at + n → drop r e ≡ text ++ drop (at + n) b → take r e ≡ take r b → Put (length text) b e at (at + n) text
+placed b e at r n text size room start written before =
+    let same : r ≡ at = omega (arith, start, size) in
+    record {
+      bytes = sym (take-append-drop r e) ∙ (λ i. before i ++ written i) ∙ (λ i. take (same i) b ++ (text ++ drop (at + size i) b));
+      next = ap (λ (k : ℕ). at + k) size;
+      most = omega (arith, size);
+      room = room;
+    }

@@ -16,6 +16,7 @@ use row::{KwSeconds, Row, Sums};
 const LEAST: usize = 200;
 
 // A space, the letter, and each after a space the actual values of FCR, aFRR and mFRR, then open.
+#[inline(always)]
 fn put_plant(lent: &mut Lent, letter: u8, x: Row)
     requires { HasRoom plant_width lent.old }
     ensures { Grown plant_width lent.old lent.new (plant_text letter x) }
@@ -28,6 +29,7 @@ fn put_plant(lent: &mut Lent, letter: u8, x: Row)
     put_field(lent, x.open);
 }
 
+#[inline(always)]
 fn put_named(lent: &mut Lent, name: &[u8], v: KwSeconds)
     requires { HasRoom (length name.now + sum_width) lent.old }
     ensures { Grown (length name.now + sum_width) lent.old lent.new (named name.now v.0) }

@@ -1,11 +1,12 @@
 // Numbers in decimal.
-ghost use Rattle.std.specs.Prelude.{◌≡◌, ℤ};
+ghost use Rattle.std.specs.Prelude.{◌≡◌, ℤ, pos, length};
+ghost use Rattle.std.specs.Int.Signed.{lt_z};
 ghost use Rattle.codec.specs.Lent.{HasRoom, Grown};
-ghost use Rattle.line.specs.Text.{digits, field, unsigned};
+ghost use Rattle.line.specs.Text.{digits, decimal, field, unsigned};
 ghost use Rattle.line.specs.Widths.{count_width, field_width, unsigned_width};
 
 use codec::Lent;
-use itoa::{Buffer, Integer};
+use itoa::write_digits;
 use power::{Kw, Millihertz};
 
 // A signed number of 32 bits with its unit.
@@ -32,24 +33,63 @@ impl Figure for Millihertz {
     }
 }
 
-// As the library prints it.
-pub(crate) fn put_number<N: Integer>(lent: &mut Lent, n: N)
-    requires { HasRoom N.MAX_STR_LEN lent.old }
-    ensures { Grown N.MAX_STR_LEN lent.old lent.new (N.text n) }
+// How many digits a number has.
+fn count_digits(n: u64) -> usize
+    ensures { result ≡ length (digits n) }
 {
-    lent.put_bytes(Buffer::new().format(n).as_bytes());
+    if n < 10 {
+        return 1;
+    }
+    if n < 100 {
+        return 2;
+    }
+    count_digits(n / 100) + 2
+}
+
+// A number's digits, which the library writes where they go: from a buffer of its own they would have to be copied.
+#[inline(always)]
+pub(crate) fn put_digits(lent: &mut Lent, n: u64)
+    requires { HasRoom (length (digits n)) lent.old }
+    ensures { Grown (length (digits n)) lent.old lent.new (digits n) }
+{
+    let end = lent.at + count_digits(n);
+    write_digits(n, lent.buf, end);
+    lent.at = end;
+}
+
+// Whether a minus sign stands before it.
+fn is_negative(n: i64) -> bool
+    ensures { result ≡ lt_z n (pos 0) }
+{
+    n < 0
+}
+
+// A number in decimal.
+#[inline(always)]
+pub(crate) fn put_number(lent: &mut Lent, n: i64)
+    requires { HasRoom (length (decimal n)) lent.old }
+    ensures { Grown (length (decimal n)) lent.old lent.new (decimal n) }
+{
+    let size = n.unsigned_abs();
+    if is_negative(n) {
+        lent.put_byte(b'-');
+        put_digits(lent, size);
+    } else {
+        put_digits(lent, size);
+    }
 }
 
 // A refusal number, or a number of seconds.
-#[tactic(auto, using(crate::proofs::Printed::printed_is))]
+#[inline(always)]
 pub fn put_count(lent: &mut Lent, n: u32)
     requires { HasRoom count_width lent.old }
     ensures { Grown count_width lent.old lent.new (digits n) }
 {
-    put_number(lent, n);
+    put_digits(lent, u64::from(n));
 }
 
 // A space and a number that has no sign.
+#[inline(always)]
 pub(crate) fn put_unsigned(lent: &mut Lent, n: u32)
     requires { HasRoom unsigned_width lent.old }
     ensures { Grown unsigned_width lent.old lent.new (unsigned n) }
@@ -59,10 +99,11 @@ pub(crate) fn put_unsigned(lent: &mut Lent, n: u32)
 }
 
 // A space and the figure's number.
+#[inline(always)]
 pub fn put_field<T: Figure>(lent: &mut Lent, x: T)
     requires { HasRoom field_width lent.old }
     ensures { Grown field_width lent.old lent.new (field (T.value x)) }
 {
     lent.put_byte(b' ');
-    put_number(lent, x.number());
+    put_number(lent, i64::from(x.number()));
 }

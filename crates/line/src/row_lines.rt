@@ -15,6 +15,7 @@ use row::KindRow;
 pub const ROW_ROOM: usize = 256;
 
 // Each line of a plant's second begins with the second and the plant's letter.
+#[inline(always)]
 pub(crate) fn put_start(lent: &mut Lent, x: &PlantSecond)
     requires { HasRoom start_width lent.old }
     ensures { Grown start_width lent.old lent.new (start_text x.now.second x.now.letter) }
@@ -25,6 +26,7 @@ pub(crate) fn put_start(lent: &mut Lent, x: &PlantSecond)
 }
 
 // One kind's setpoint, band, share and actual value, each after a space.
+#[inline(always)]
 fn put_kind(lent: &mut Lent, k: KindRow)
     requires { HasRoom kind_width lent.old }
     ensures { Grown kind_width lent.old lent.new (kind_text k) }

@@ -13,6 +13,7 @@ use refusals::Refusal;
 use row::{Rounding, Row};
 
 // One kind's tolerance, rounded-down share, remainder and extra kW, each after a space.
+#[inline(always)]
 fn put_rounding(lent: &mut Lent, r: Rounding)
     requires { HasRoom rounding_width lent.old }
     ensures { Grown rounding_width lent.old lent.new (rounding_text r) }
@@ -23,6 +24,7 @@ fn put_rounding(lent: &mut Lent, r: Rounding)
     put_unsigned(lent, r.extra);
 }
 
+#[inline(always)]
 fn put_roundings(lent: &mut Lent, x: Row)
     requires { HasRoom (3 * rounding_width) lent.old }
     ensures { Grown (3 * rounding_width) lent.old lent.new (roundings_text x) }

@@ -6,7 +6,7 @@ ghost use Rattle.line.specs.Widths.{row_room, name_width, outside_width, side_co
 ghost use Rattle.line.specs.Short.{name_of, outside_text, side_text, short_text, side_count_text, kind_counts_text, counts_text};
 ghost use Rattle.line.specs.Lined.{Lined};
 
-use crate::number::{put_count, put_number};
+use crate::number::{put_count, put_digits};
 use crate::row_lines::put_start;
 use crate::{PlantSecond, ROW_ROOM, check_room};
 use codec::Lent;
@@ -83,7 +83,7 @@ fn put_side_count(lent: &mut Lent, side: &[u8; 7], c: SideCount)
     lent.put_bytes(side);
     put_count(lent, c.seconds);
     lent.put_byte(b' ');
-    put_number(lent, c.kw_seconds);
+    put_digits(lent, c.kw_seconds);
 }
 
 fn put_kind_counts(lent: &mut Lent, letter: u8, kind: KindName, c: KindCounts)
