@@ -1,11 +1,8 @@
 -- What the library prints of a number is its text. Assumes nothing.
-use Rattle.std.proofs.Common.{◌≡◌, ℕ, suc, ◌+◌, ◌^◌, ◌<◌, ◌≤◌, List, ◌∷◌, ◌++◌, length, take, drop, take-append-drop, ℤ, pos, negsuc, nat_abs, SFits, w64, sym, ap, ◌∙◌, arith, lt-ltb, le-ltb}
+use Rattle.std.proofs.Common.{◌≡◌, ℕ, suc, ◌+◌, ◌^◌, ◌<◌, ◌≤◌, List, ◌∷◌, ◌++◌, length, take, drop, take-append-drop, ℤ, pos, negsuc, nat_abs, sym, ap, ◌∙◌, arith, lt-ltb, le-ltb}
 use Rattle.std.specs.Fmt.{decimal as printed, signed_decimal}
 use Rattle.std.proofs.lemmas.Fmt.{AppendsLastDigit, decimal_from_appends, length-decimal-le_succ}
-use Rattle.std.specs.Int.Signed.{nat_abs-le}
-use Rattle.codec.specs.declared.lent.Lent.{Lent}
 use Rattle.codec.specs.Put.{Put}
-use Rattle.codec.specs.Lent.{Grown}
 use Rattle.line.specs.Text.{digits_in, digits, decimal}
 
 last_digit : AppendsLastDigit digits_in
