@@ -38,9 +38,9 @@ module _ (r : Reading) {s : List ℕ} {t : Lent} where
       (omega arith)
 
   -- one is: the bytes are put after those of it that were there
-  pub still_short : HasRoom block_room t → is_due r.standing ≡ true → length r.part + length s < block_size → Chunked block_room r s t t (record { standing = r.standing; part = r.part ++ s })
-  still_short room due h =
-      gives (filling r.standing r.part s due h) refl (loosen (omega arith) (none t (omega (arith, room)))) (omega (arith, length-append r.part s))
+  pub still_short : {p : List ℕ} → HasRoom block_room t → is_due r.standing ≡ true → length r.part + length s < block_size → p ≡ r.part ++ s → Chunked block_room r s t t (record { standing = r.standing; part = p })
+  still_short room due h is =
+      rw is (gives (filling r.standing r.part s due h) refl (loosen (omega arith) (none t (omega (arith, room)))) (omega (arith, length-append r.part s)))
 
   pub now_whole : {u : Lent} {st : Standing} → 0 < length s → is_due r.standing ≡ true → length r.part + length s ≡ block_size → Advances block_room t u st (standing_in r.standing (r.part ++ s)) → Chunked block_room r s t u (record { standing = st; part = [] })
   now_whole some due size f =

@@ -8,7 +8,7 @@ pub returns-then-end-lt-SIZE : goal.returns-then-end-lt-SIZE
 returns-then-end-lt-SIZE c =
     let r = c.args.self.now in
     let there = length-take-le r.filled r.part (omega arith) in
-    rw (gathered r.filled r.part c.args.bytes.now c.copy_from_slice.ensures.after (omega arith)) (still_short (placed r) c.requires.2 c.requires.1 (omega (arith, there)))
+    still_short (placed r) c.requires.2 c.requires.1 (omega (arith, there)) (gathered r.filled r.part c.args.bytes.now c.copy_from_slice.ensures.after (omega arith))
 
 pub returns-else-end-lt-SIZE : goal.returns-else-end-lt-SIZE
 returns-else-end-lt-SIZE c =
