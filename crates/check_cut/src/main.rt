@@ -121,7 +121,7 @@ fn main(rt: HostRuntime) {
     };
     let verdict = match printer.book(&rt) {
         Ok(()) => Ok(()),
-        Err(Stop::Refused(refusal)) => Err(refusal),
+        Err(Stop::Refused(refusal)) => Err(refusal.number()),
         Err(Stop::Unsent) => return,
     };
     let line = standing::last_line(verdict, &printer.cut.kept.book);

@@ -1,5 +1,8 @@
 -- Bytes of one block: they are gathered, or make it whole, or no block is due for them; and a piece chunk by chunk. Assumes nothing.
-use Rattle.std.proofs.Common.{◌≡◌, refl, sym, ap, ◌∙◌, true, false, List, [], ◌∷◌, ◌++◌, append_assoc, append-nil, ℕ, ◌+◌, ◌*◌, ◌≤◌, ◌<◌, ◌%◌, arith, length, length-append}
+use Rattle.std.proofs.Common.{◌≡◌, refl, sym, ap, ◌∙◌, true, false, List, [], ◌∷◌, ◌++◌, append_assoc, append-nil, ℕ, ◌+◌, ◌-◌, ◌*◌, ◌≤◌, ◌<◌, ◌%◌, arith, length, take, drop, length-append, length-drop}
+use Rattle.std.proofs.lemmas.List.{drop_all}
+use Rattle.std.proofs.lemmas.Slice.{take-put_mid}
+use borrow.Rule.Slice.PartMut.{put_mid}
 use Rattle.block.specs.Places.{block_size}
 use Rattle.codec.specs.declared.lent.Lent.{Lent}
 use Rattle.codec.specs.Put.{Put}
@@ -35,9 +38,9 @@ module _ (r : Reading) {s : List ℕ} {t : Lent} where
       (omega arith)
 
   -- one is: the bytes are put after those of it that were there
-  pub still_short : HasRoom block_room t → is_due r.standing ≡ true → length r.part + length s < block_size → Chunked block_room r s t t (record { standing = r.standing; part = r.part ++ s })
-  still_short room due h =
-      gives (filling r.standing r.part s due h) refl (loosen (omega arith) (none t (omega (arith, room)))) (omega (arith, length-append r.part s))
+  pub still_short : {p : List ℕ} → HasRoom block_room t → is_due r.standing ≡ true → length r.part + length s < block_size → p ≡ r.part ++ s → Chunked block_room r s t t (record { standing = r.standing; part = p })
+  still_short room due h is =
+      rw is (gives (filling r.standing r.part s due h) refl (loosen (omega arith) (none t (omega (arith, room)))) (omega (arith, length-append r.part s)))
 
   pub now_whole : {u : Lent} {st : Standing} → 0 < length s → is_due r.standing ≡ true → length r.part + length s ≡ block_size → Advances block_room t u st (standing_in r.standing (r.part ++ s)) → Chunked block_room r s t u (record { standing = st; part = [] })
   now_whole some due size f =
@@ -49,6 +52,20 @@ module _ (r : Reading) {s : List ℕ} {t : Lent} where
   whole_lies empty size f =
       let none_is = empty ∙ sym (none_left r.standing s) in
       gives (ap (λ (p : List ℕ). bytes_in r.standing p s) empty ∙ whole_block r.standing s size) (λ i. record { standing = f.standing i; part = none_is i }) f.text (omega (arith, f.text.put.most, size))
+
+-- ---- the bytes of a block begun
+
+-- the bytes s were copied into the part behind its first `at` ones: those that are there then, and the whole part where it is full
+module _ (at : ℕ) (part s : List ℕ) {copied : List ℕ} (same : copied ≡ s) (inside : at ≤ length part) where
+  pub gathered : take (at + length s) (put_mid at (at + length s - at) part copied) ≡ take at part ++ s
+  gathered =
+      let len = ap length same in
+      take-put_mid at (at + length s - at) part copied (at + length s) (omega arith) inside ∙ ap (λ (l : List ℕ). take at part ++ l) same
+
+  pub gathered_whole : length part ≤ at + length s → put_mid at (at + length s - at) part copied ≡ take at part ++ s
+  gathered_whole up =
+      let long = length-drop at part in
+      ap (λ (l : List ℕ). take at part ++ (copied ++ l)) (drop_all (at + length s - at) (drop at part) (omega arith)) ∙ ap (λ (l : List ℕ). take at part ++ l) (append-nil copied ∙ same)
 
 -- ---- a buffer lent whole
 

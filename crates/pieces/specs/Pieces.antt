@@ -92,7 +92,7 @@ pub record Chunked (m : ℕ) (r : Reading) (s : List ℕ) (t u : Lent) (v : Read
   pub text : Grown m t u (bytes_in r.standing r.part s).text
   pub paced : u.at * block_size + length v.part * block_room ≤ t.at * block_size + (length r.part + length s) * block_room
 
--- so many bytes are wanted, at most a piece; `short` is the type's invariant, which callers need and can't cite
+-- so many bytes are wanted, at most a piece; `short` is the type's ghost field, of the bytes that clauses see
 pub record Wanted (r : Reading) (n : ℕ) : Type 0 where
   pub is : n ≡ wanted_in r.standing (length r.part)
   pub most : n ≤ piece_size

@@ -1,7 +1,6 @@
 -- What is printed of a book (01, "Blocks and text"): "prints a line a second, then a sum line".
 use Rattle.std.specs.Prelude.{ℕ, ◌*◌, List, [], ◌++◌}
 use Prim.Native.Char.{code}
-use Rattle.refusals.specs.Refusals.{number_of}
 use Rattle.row.specs.declared.Row.{Row}
 use Rattle.block.specs.Places.{per_block}
 use Rattle.line.specs.Line.{second_text, row_text, sum_text, refusal_text}
@@ -21,7 +20,7 @@ abbrev pub text_of : TextLine → List ℕ
 text_of (text.Second t u a b) = second_text t u a b
 text_of (text.Plant x) = row_text x.second x.letter x.row
 text_of (text.Sums s) = sum_text s
-text_of (text.Refusal e t) = refusal_text (number_of e) t
+text_of (text.Refusal n t) = refusal_text n t
 text_of (text.Short x) = short_text x.second x.letter x.row
 text_of (text.Counts letter c) = counts_text letter c
 text_of (text.Shares x) = shares_text x.second x.letter x.row
@@ -30,7 +29,7 @@ abbrev pub room_of : TextLine → ℕ
 room_of (text.Second t u a b) = line_room
 room_of (text.Plant x) = row_room
 room_of (text.Sums s) = line_room
-room_of (text.Refusal e t) = line_room
+room_of (text.Refusal n t) = line_room
 room_of (text.Short x) = row_room
 room_of (text.Counts letter c) = row_room
 room_of (text.Shares x) = row_room

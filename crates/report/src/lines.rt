@@ -24,7 +24,8 @@ pub enum TextLine {
     Plant(PlantSecond),
     Sums(Sums),
     Refusal {
-        refusal: Refusal,
+        // A byte, as `line` takes it (D69).
+        number: u8,
         seconds: u32,
     },
     Short(PlantSecond),
@@ -43,9 +44,7 @@ fn write(buf: &mut [u8], text: TextLine) -> Result<usize, Refusal>
         TextLine::Second { second, unit, a, b } => line::second_line(buf, second, unit, a, b),
         TextLine::Plant(x) => line::plant_line(buf, x),
         TextLine::Sums(sums) => line::sum_line(buf, sums),
-        TextLine::Refusal { refusal, seconds } => {
-            line::refusal_line(buf, refusal.number(), seconds)
-        }
+        TextLine::Refusal { number, seconds } => line::refusal_line(buf, number, seconds),
         TextLine::Short(x) => line::plant_short(buf, x),
         TextLine::Counts { letter, counts } => line::plant_counts(buf, letter, counts),
         TextLine::Shares(x) => line::plant_shares(buf, x),

@@ -53,7 +53,7 @@ fn refuse(rt: &impl Print, refusal: Refusal) {
     report::add(
         &mut text,
         TextLine::Refusal {
-            refusal,
+            number: refusal.number(),
             seconds: 0,
         },
     );

@@ -1,6 +1,7 @@
 -- A standing and its blocks: what the header's and a later block's readers answered, and the room of the text. Assumes nothing.
 use Rattle.record.specs.Record.{most_seconds}
 use Rattle.std.proofs.Common.{Result, Ok, Err, is_ok, is_err, leb, ◌≡◌, refl, sym, ap, ◌∙◌, Bool, true, false, cond, true≢false, List, [], ◌∷◌, ℕ, zero, suc, ◌≤◌, arith, eqb, eq-eqb, ne_eqb, leb-true}
+use Rattle.std.specs.Result.{MatchResult, IsErrAnd}
 use Rattle.refusals.specs.declared.Refusal.{Refusal}
 use Rattle.refusals.specs.Refusals.{number_of, number_in}
 use Rattle.refusals.proofs.Laws.{not_zero}
@@ -12,33 +13,38 @@ use Rattle.block.proofs.Taken.{header_fields, header_zero}
 use Rattle.codec.specs.declared.lent.Lent.{Lent}
 use Rattle.codec.specs.Lent.{HasRoom}
 use Rattle.codec.proofs.Lents.{loosen, none}
-use Rattle.report.specs.Running.{Verdict, Accepted, Refused, verdict_told, block_in}
+use Rattle.report.specs.Running.{Verdict, Accepted, Refused, block_in}
 use Rattle.report.specs.Text.{block_room}
-use Rattle.standing.specs.Standing.{Standing, Went, kept_by, with_verdict, after_header, header_by, later_by, beyond_by, due_by, is_due, standing_in, bytes_due, Advances}
+use Rattle.standing.specs.Standing.{verdict_in, Standing, Went, kept_by, with_verdict, after_header, header_by, later_by, beyond_by, due_by, is_due, standing_in, bytes_due, Advances}
 
 -- ---- the verdict
 
-pub told_ok : {A : Type 0} (r : Result A Refusal) → is_ok r ≡ true → verdict_told r ≡ Accepted
+pub told_ok : {A : Type 0} (r : Result A ℕ) → is_ok r ≡ true → verdict_in r ≡ Accepted
 told_ok (Ok x) h = refl
-told_ok (Err e) h = let z : ◌≡◌ {A = Bool} true false = sym h in absurd (true≢false z)
+told_ok (Err n) h = let z : ◌≡◌ {A = Bool} true false = sym h in absurd (true≢false z)
 
-pub told_err : {A : Type 0} (r : Result A Refusal) → is_err r ≡ true → (n : ℕ) × (verdict_told r ≡ Refused n)
+pub told_err : {A : Type 0} (r : Result A ℕ) → is_err r ≡ true → (n : ℕ) × (verdict_in r ≡ Refused n)
 told_err (Ok x) h = let z : ◌≡◌ {A = Bool} true false = sym h in absurd (true≢false z)
-told_err (Err e) h = (number_of e, refl)
+told_err (Err n) h = (n, refl)
 
-pub due_ok : {A : Type 0} (r : Result A Refusal) (n t : ℕ) → is_ok r ≡ true → due_by (verdict_told r) n t ≡ leb n (last_block t)
+pub due_ok : {A : Type 0} (r : Result A ℕ) (n t : ℕ) → is_ok r ≡ true → due_by (verdict_in r) n t ≡ leb n (last_block t)
 due_ok r n t h = rw (told_ok r h)
 
-pub due_err : {A : Type 0} (r : Result A Refusal) (n t : ℕ) → is_ok r ≡ false → due_by (verdict_told r) n t ≡ false
+pub due_err : {A : Type 0} (r : Result A ℕ) (n t : ℕ) → is_ok r ≡ false → due_by (verdict_in r) n t ≡ false
 due_err (Ok x) n t h = let z : ◌≡◌ {A = Bool} true false = h in absurd (true≢false z)
 due_err (Err e) n t h = refl
 
+-- q is the result r with its refusal's number alone
+abbrev pub Numbered : {A : Type 0} → Result A Refusal → Result A ℕ → Type 0
+Numbered r q = MatchResult r (λ x. q ≡ Ok x) (λ e. IsErrAnd q (λ n. n ≡ number_of e))
+
 -- bytes after the last block, where nothing was refused
-pub past_last_told : {A : Type 0} (st : Standing) (s : List ℕ) (r : Result A Refusal) → st.verdict ≡ Accepted → number_in r ≡ past_last s → with_verdict st (verdict_told r) ≡ (beyond_by st.verdict st s).standing
-past_last_told st [] (Ok x) a h = rw a
-past_last_told st [] (Err e) a h = absurd (not_zero e h)
-past_last_told st (b ∷ s) (Ok x) a h = absurd (omega (arith, h))
-past_last_told st (b ∷ s) (Err e) a h = rw (a, h)
+pub past_last_told : {A : Type 0} (st : Standing) (s : List ℕ) (r : Result A Refusal) (q : Result A ℕ) → st.verdict ≡ Accepted → number_in r ≡ past_last s → Numbered r q → with_verdict st (verdict_in q) ≡ (beyond_by st.verdict st s).standing
+past_last_told st [] (Ok x) q a h n = rw (a, n)
+past_last_told st [] (Err e) q a h n = absurd (not_zero e h)
+past_last_told st (b ∷ s) (Ok x) q a h n = absurd (omega (arith, h))
+past_last_told st (b ∷ s) (Err e) (Ok x) a h n = absurd n
+past_last_told st (b ∷ s) (Err e) (Err m) a h n = rw (a, n, h)
 
 -- ---- the header
 

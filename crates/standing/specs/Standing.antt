@@ -1,5 +1,5 @@
 -- A book block after block: what each block adds to the text, where the book stands then, and what the end of the bytes says.
-use Rattle.std.specs.Prelude.{◌≡◌, ℕ, zero, suc, ◌+◌, ◌*◌, ◌-◌, Bool, true, false, cond, List, [], ◌∷◌, eqb, leb}
+use Rattle.std.specs.Prelude.{◌≡◌, ℕ, zero, suc, ◌+◌, ◌*◌, ◌-◌, Bool, true, false, cond, List, [], ◌∷◌, eqb, leb, Result, Ok, Err}
 use Rattle.sheet.specs.declared.Sheet.{Sheet}
 use Rattle.book.specs.declared.Book.{Book}
 use Rattle.book.specs.State.{fresh}
@@ -15,6 +15,13 @@ use Rattle.report.specs.declared.Form.{Form}
 use Rattle.report.specs.declared.run.Plan.{Plan}
 use Rattle.report.specs.Kept.{Kept, keep}
 use Rattle.report.specs.Running.{Verdict, Accepted, Refused, Ran, block_in}
+
+-- ---- the verdict
+
+-- what a result says whose error is a refusal's number
+abbrev pub verdict_in : {A : Type 0} → Result A ℕ → Verdict
+verdict_in (Ok x) = Accepted
+verdict_in (Err n) = Refused n
 
 -- ---- where a book stands
 

@@ -9,8 +9,8 @@ ghost use Rattle.record.specs.Record.{most_seconds};
 ghost use Rattle.block.specs.Book.{past_last};
 ghost use Rattle.block.specs.Header.{header_number};
 ghost use Rattle.report.specs.Text.{block_room, text_of};
-ghost use Rattle.report.specs.Running.{verdict_told, block_in};
-ghost use Rattle.standing.specs.Standing.{start, kept_by, is_due, bytes_due, header_by, later_by, beyond_by, standing_in, last_by, last_line_in, end_of, Advances};
+ghost use Rattle.report.specs.Running.{block_in};
+ghost use Rattle.standing.specs.Standing.{verdict_in, start, kept_by, is_due, bytes_due, header_by, later_by, beyond_by, standing_in, last_by, last_line_in, end_of, Advances};
 
 use block::Header;
 use book::Book;
@@ -20,14 +20,15 @@ use report::{Form, Kept, Plan, TextLine};
 use sheet::FairSheet;
 
 // Where a book stands between two of its blocks: `next` is the number of the block next in turn, 0 for the header. Before the header the plan
-// has no seconds, so that block 0 is the last one due and one rule serves the header too; it never has more than a book may have. Clauses see it
-// by `stood`: a Model would give up `Copy`, since a verdict's number doesn't give its refusal back.
+// has no seconds, so that block 0 is the last one due and one rule serves the header too; it never has more than a book may have. The verdict has
+// a refusal's number, any byte, as `line::refusal_line` takes it (D69). Clauses see it by `stood`: for `Copy` a Model would have to give each
+// field back, the verdict too.
 #[derive(Clone, Copy)]
 pub struct Standing {
     pub plan: Plan,
     pub next: u32,
     pub kept: Kept,
-    pub verdict: Result<(), Refusal>,
+    pub verdict: Result<(), u8>,
     ghost few: { plan.seconds ≤ most_seconds },
 }
 
@@ -43,13 +44,13 @@ pub fn past_last(bytes: &[u8]) -> Result<(), Refusal>
 }
 
 // The sum line, or the refusal that ends the text.
-pub fn last_line(verdict: Result<(), Refusal>, book: &Book) -> TextLine
-    ensures { text_of result ≡ last_by (verdict_told verdict) book.now }
+pub fn last_line(verdict: Result<(), u8>, book: &Book) -> TextLine
+    ensures { text_of result ≡ last_by (verdict_in verdict) book.now }
 {
     match verdict {
         Ok(()) => TextLine::Sums(book.sums),
-        Err(refusal) => TextLine::Refusal {
-            refusal,
+        Err(number) => TextLine::Refusal {
+            number,
             seconds: book.unit.seconds,
         },
     }
@@ -104,7 +105,7 @@ impl Standing {
                 self.plan.seconds = seconds;
                 self.next = 1;
             }
-            Err(refusal) => self.verdict = Err(refusal),
+            Err(refusal) => self.verdict = Err(refusal.number()),
         }
     }
 
@@ -113,17 +114,18 @@ impl Standing {
         requires { HasRoom block_room text.old × (self.old.next ≤ most_seconds) }
         ensures { Advances block_room text.old text.new (stood self.new) (later_by (block_in self.old.plan self.old.next (kept_by (stood self.old)) bytes.now) (stood self.old)) }
     {
-        self.verdict = self.kept.run_block(self.plan, self.next, bytes, text);
+        let ran = self.kept.run_block(self.plan, self.next, bytes, text);
+        self.verdict = ran.map_err(Refusal::number);
         self.next += 1;
     }
 
     // Bytes that no block is due for: after the last block they are refused, after a refusal nothing counts.
     #[tactic(auto, using(crate::proofs::Steps::told_ok, crate::proofs::Steps::past_last_told))]
     pub fn beyond(&mut self, bytes: &[u8])
-        ensures { stood self.new ≡ (beyond_by (verdict_told self.old.verdict) (stood self.old) bytes.now).standing }
+        ensures { stood self.new ≡ (beyond_by (verdict_in self.old.verdict) (stood self.old) bytes.now).standing }
     {
         if self.verdict.is_ok() {
-            self.verdict = past_last(bytes);
+            self.verdict = past_last(bytes).map_err(Refusal::number);
         }
     }
 
@@ -144,11 +146,11 @@ impl Standing {
 
     // What the end of the bytes says: a block that is due and isn't whole gets 12.
     #[tactic(auto, unfolding(crate::specs::Standing::end_of))]
-    fn end(&self) -> Result<(), Refusal>
-        ensures { verdict_told result ≡ end_of (stood self.now) }
+    fn end(&self) -> Result<(), u8>
+        ensures { verdict_in result ≡ end_of (stood self.now) }
     {
         if self.is_due() {
-            return Err(Refusal::Length);
+            return Err(Refusal::Length.number());
         }
         self.verdict
     }

@@ -1,6 +1,6 @@
 // A book's run: its bytes are read where the last piece stood, taken, and their text is sent.
 ghost use Rattle.std.specs.Prelude.{◌≡◌};
-ghost use Rattle.pieces.specs.Pieces.{Reading as Place, unread};
+ghost use Rattle.pieces.specs.Pieces.{unread};
 ghost use Rattle.stdio.specs.Rest.{rest_of};
 
 use pieces::{PIECE, PIECE_ROOM, Reading};
@@ -20,9 +20,12 @@ pub(crate) struct Run {
 
 // Seen as where the book stands.
 impl Model for Run {
+    ghost use Rattle.pieces.specs.Pieces.{Reading as Place};
+    ghost use Rattle.pieces.specs.Placed.{placed};
+
     ghost Value = { Place };
 
-    ghost view = { λ r. r.reading };
+    ghost view = { λ r. placed r.reading };
 }
 
 impl Run {

@@ -11,8 +11,7 @@ loop-block-init c =
     let items = c.chunks_exact-block-items.ensures in
     let size : chunks_exact_size c.into_iter-block-iterator.result ≡ block_size = ap (chunks_exact_size {T = ℕ}) same ∙ items.size in
     let rest = ap (chunks_exact_rest {T = ℕ}) same ∙ items.rest in
-    let asked = rw (← c.self.view_is) at c.requires in
-    (omega (arith, size), tt, size, rw (rest, ← c.self.view_is) (record { through = start (omega (arith, asked.3)); empty = asked.0; even = asked.1 }))
+    (omega (arith, size), tt, size, rw rest (record { through = start (omega (arith, c.requires.3)); empty = c.requires.0; even = c.requires.1 }))
 
 pub loop-block-preserved : goal.loop-block-preserved
 loop-block-preserved c =

@@ -2,7 +2,7 @@
 use Rattle.std.specs.Slice.Iter.{chunks_exact_rest, chunks_exact_size}
 use Rattle.std.proofs.Common.{◌≡◌}
 use Rattle.block.specs.Places.{block_size}
-use Rattle.standing.specs.Stood.{stood}
+use Rattle.pieces.specs.Placed.{placed}
 use Rattle.pieces.proofs.Chunks.{Blocks}
 use Rattle.pieces.proofs.reading.Reading.take_blocks.Given as goal
 
@@ -11,4 +11,4 @@ invariant-loop-block l =
     (goal.iterator-loop-block).can_next l.block-iterator
     × (goal.iterator-loop-block).is_finite l.block-iterator
     × (chunks_exact_size l.block-iterator ≡ block_size)
-    × Blocks l.fn.self l.bytes l.fn.text l.text (record { standing = stood l.self-inside.standing; part = l.self-inside.part.items }) (chunks_exact_rest l.block-iterator)
+    × Blocks (placed l.fn.self) l.bytes l.fn.text l.text (placed l.self) (chunks_exact_rest l.block-iterator)
