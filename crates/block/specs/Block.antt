@@ -1,6 +1,6 @@
 -- "Others: 0-3 block number from 1, 4 seconds in it (4, fewer only in the last), from 16 on 108 bytes a second: U, A, B. All else is 0."
 -- (01, "Blocks and text")
-use Rattle.std.specs.Prelude.{ℕ, zero, suc, ◌*◌, ◌-◌, min, not, List, [], ◌∷◌, length, get_or, take, drop, eqb, Result, Ok, Err}
+use Rattle.std.specs.Prelude.{◌≡◌, ℕ, zero, suc, ◌*◌, ◌-◌, min, not, List, [], ◌∷◌, length, get_or, take, drop, eqb, Result, Ok, Err}
 use Rattle.std.specs.Borrow.{Bor}
 use Rattle.refusals.specs.declared.Refusal.{Refusal}
 use Rattle.refusals.specs.Refusals.{number_of}
@@ -51,6 +51,11 @@ second_of s i = take second_size (drop (second_at i) s)
 unfoldable pub seconds_from : List ℕ → ℕ → ℕ → List (List ℕ)
 seconds_from s i zero = []
 seconds_from s i (suc n) = second_of s i ∷ seconds_from s (suc i) n
+
+-- what `second` answers
+pub record SecondIn (s : List ℕ) (i : ℕ) (r : List ℕ) : Type 0 where
+  pub bytes : r ≡ second_of s i
+  pub whole : length r ≡ second_size
 
 -- how many seconds a block has, where they are answered
 abbrev pub count_told : Result (Bor (List (List ℕ))) Refusal → Result ℕ Refusal

@@ -1,8 +1,9 @@
 // A later block: 0-3 block number from 1, 4 seconds in it, from 16 on 108 bytes a second: U, A, B. All else is 0.
-ghost use Rattle.std.specs.Prelude.{◌≡◌, ◌≤◌, ◌<◌, IfOk};
+ghost use Rattle.std.specs.Prelude.{◌≡◌, ◌≤◌, ◌<◌, length, IfOk};
 ghost use Rattle.record.specs.Record.{most_seconds};
-ghost use Rattle.block.specs.Places.{per_block};
-ghost use Rattle.block.specs.Block.{due_in, count_of, block_of, block_says, count_told, seconds_from};
+ghost use Rattle.block.specs.Places.{block_size, per_block};
+ghost use Rattle.block.specs.Block.{due_in, count_of, block_of, block_says, count_told, seconds_from, SecondIn};
+ghost use Rattle.block.specs.Layout.{body_of};
 ghost use Rattle.block.specs.Book.{last_block};
 
 use crate::bytes::{check_of, is_zero};
@@ -68,6 +69,23 @@ pub fn read_block(s: &[u8], seconds: u32, n: u32) -> Result<&[[u8; record::BOOK_
     if !is_zero(&s[COUNT_END..BODY_AT]) || !is_zero(&s[end..CHECK_AT]) {
         return Err(Refusal::SpareByte);
     }
-    let (seconds, _) = s[BODY_AT..end].as_chunks();
+    let (seconds, _) = body(s, count).as_chunks();
     Ok(seconds)
+}
+
+// The bytes of second i of a block, counted from 0: U, A, B. Of any 512 bytes, so also of a block that `read_block` refuses.
+pub fn second(s: &[u8], i: usize) -> &[u8]
+    requires { (length s.now ≡ block_size) × (i < per_block) }
+    ensures { SecondIn s.now i result.now }
+{
+    let from = BODY_AT + SECOND * i;
+    &s[from..from + SECOND]
+}
+
+// The bytes of a block's first `count` seconds, of any 512 bytes.
+pub fn body(s: &[u8], count: usize) -> &[u8]
+    requires { (length s.now ≡ block_size) × (count ≤ per_block) }
+    ensures { result.now ≡ body_of s.now count }
+{
+    &s[BODY_AT..BODY_AT + SECOND * count]
 }

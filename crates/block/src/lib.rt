@@ -12,7 +12,7 @@ mod later_block;
 pub use block_writer::write_block;
 pub use header_block::read_header;
 pub use header_writer::write_header;
-pub use later_block::{PER_BLOCK, last_block, read_block};
+pub use later_block::{PER_BLOCK, body, last_block, read_block, second};
 
 // The bytes of a block, and the place of its check.
 pub const SIZE: usize = 512;

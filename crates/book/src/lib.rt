@@ -13,7 +13,7 @@ ghost use Rattle.book.specs.declared.BookRefusal.TheVariants.{Form, Of};
 ghost use Rattle.book.specs.Answers.{refusal_in, book_told};
 ghost use Rattle.book.specs.Refusals.{form_number};
 ghost use Rattle.book.specs.HandOver.{HandedOver};
-ghost use Rattle.book.specs.Open.{OpenedUnder};
+ghost use Rattle.book.specs.Open.{OpenedUnder, OpenedOrDefault};
 ghost use Rattle.book.specs.State.{second_of, fresh, Ready, PlantsStepped, Stepped};
 
 pub use list::run;
@@ -42,6 +42,13 @@ pub struct Book {
     pub a: PlantState,
     pub b: PlantState,
     pub sums: Sums,
+}
+
+// What `Book::open_or_default` gives: whether the book opened under the sheet, and a book either way.
+#[derive(Clone, Copy)]
+pub struct BookOpening {
+    pub answer: Result<(), Refusal>,
+    pub book: Book,
 }
 
 // The rows of U, A and B in an accepted second.
@@ -126,6 +133,23 @@ impl Book {
         ensures { OpenedUnder sheet (told result) }
     {
         Ok(Book::new(FairSheet::try_from(sheet)?))
+    }
+
+    // A fresh book under a sheet; beside 30 one under the default sheet, which nobody asked for, so that a caller has a book to go on with.
+    #[tactic(auto, using(crate::proofs::Opening::opened_under, crate::proofs::Opening::refused_under))]
+    pub fn open_or_default(sheet: Sheet) -> BookOpening
+        ensures { OpenedOrDefault sheet (record { answer = told result.answer; book = result.book }) }
+    {
+        match Book::open(sheet) {
+            Ok(book) => BookOpening {
+                answer: Ok(()),
+                book,
+            },
+            Err(refusal) => BookOpening {
+                answer: Err(refusal),
+                book: Book::new(FairSheet::default()),
+            },
+        }
     }
 
     // A fresh book under a sheet whose figures are in range.

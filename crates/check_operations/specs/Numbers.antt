@@ -1,5 +1,5 @@
 -- The refusal number that each operation gives, 0 where nothing is refused, as the program asks it.
-use Rattle.std.specs.Prelude.{ℕ, ◌+◌, List, pos, replicate, set}
+use Rattle.std.specs.Prelude.{◌≡◌, ℕ, ◌+◌, List, pos, replicate, set}
 use Rattle.refusals.specs.Refusals.{answer_number}
 use Rattle.sheet.specs.declared.Sheet.{Sheet}
 use Rattle.row.specs.declared.sums.Sums.{Sums}
@@ -10,6 +10,7 @@ use Rattle.book.specs.State as book
 use Rattle.block.specs.Places.{block_size, check_at, per_block}
 use Rattle.block.specs.Said.{Said, values, refused}
 use Rattle.block.specs.Block.{block_of}
+use Rattle.block.specs.Writing.{Outcome}
 use Rattle.line.specs.Widths.{line_room}
 use Rattle.line.specs.Line.{sum_text}
 use Rattle.line.specs.Lined.{answer_of}
@@ -29,6 +30,11 @@ line_number b s = answer_number (answer_of line_room b (sum_text s))
 abbrev pub said_number : Said → ℕ
 said_number (values vs) = 0
 said_number (refused n) = n
+
+-- a writer's answer with the number n, and the buffer b after it, are those of o
+pub record Wrote (n : ℕ) (b : List ℕ) (o : Outcome) : Type 0 where
+  pub number : n ≡ said_number o.said
+  pub buffer : b ≡ o.buffer
 
 -- that many bytes 0
 abbrev pub blank : ℕ → List ℕ

@@ -1,6 +1,9 @@
 // The writers' answers, and the buffer after each (02, W1).
 ghost use Rattle.std.specs.Prelude.{◌≤◌};
 ghost use Rattle.std.specs.Fn.{FnOnceReturnsAtMut};
+ghost use Rattle.refusals.specs.Refusals.{number_in};
+ghost use Rattle.block.specs.Writing.{header_written, block_written};
+ghost use Rattle.check_operations.specs.Numbers.{Wrote};
 
 use crate::Outcome;
 use block::{Header, write_block, write_header};
@@ -70,9 +73,31 @@ fn ask_of<F: FnOnce(&mut [u8]) -> Result<(), Refusal>>(
     ask(rt, what, buf, write)
 }
 
+// The header writer. No contract can speak of what is printed, so this one says which number is answered and what the buffer holds after it.
+#[tactic(auto, using(crate::proofs::Asked::wrote))]
+fn ask_header_writer(buf: &mut [u8], owner: u8, seconds: u32) -> Result<(), Refusal>
+    ensures { Wrote (number_in result) buf.new (header_written buf.old owner seconds) }
+{
+    write_header(buf, Header { owner, seconds })
+}
+
+// The block writer likewise.
+#[tactic(auto, using(crate::proofs::Asked::wrote))]
+fn ask_block_writer(buf: &mut [u8], n: u32, seconds: &[u8]) -> Result<(), Refusal>
+    ensures { Wrote (number_in result) buf.new (block_written buf.old n seconds.now) }
+{
+    write_block(buf, n, seconds)
+}
+
 fn header(rt: &impl Print, what: &str, buf: &mut [u8], owner: u8, seconds: u32) -> io::Result<()> {
-    let header = Header { owner, seconds };
-    ask_of(rt, what, buf, |buf| write_header(buf, header))
+    ask_of(
+        rt,
+        what,
+        buf,
+        |buf|
+            ensures { Wrote (number_in result) buf.new (header_written buf.old owner seconds) }
+        { ask_header_writer(buf, owner, seconds) },
+    )
 }
 
 // Block n of so many bytes of seconds.
@@ -82,7 +107,14 @@ fn block(rt: &impl Print, what: &str, buf: &mut [u8], n: u32, bytes: usize) -> i
     let mut seconds = [0u8; MOST_BYTES];
     fill(&mut seconds, SECONDS);
     let seconds = &seconds[..bytes];
-    ask_of(rt, what, buf, |buf| write_block(buf, n, seconds))
+    ask_of(
+        rt,
+        what,
+        buf,
+        |buf|
+            ensures { Wrote (number_in result) buf.new (block_written buf.old n seconds.entry.now) }
+        { ask_block_writer(buf, n, seconds) },
+    )
 }
 
 pub(crate) fn headers(rt: &impl Print) -> io::Result<()> {
@@ -131,7 +163,7 @@ pub(crate) fn one_buffer(rt: &impl Print) -> io::Result<()> {
         rt,
         "write-block-first-of-two",
         &mut buf,
-        |buf| write_block(buf, 1, &four),
+        |buf| ask_block_writer(buf, 1, &four),
     )?;
     let mut one = [0u8; record::BOOK_SIZE];
     fill(&mut one, SECONDS);
@@ -139,15 +171,12 @@ pub(crate) fn one_buffer(rt: &impl Print) -> io::Result<()> {
         rt,
         "write-block-over-it",
         &mut buf,
-        |buf| write_block(buf, 2, &one),
+        |buf| ask_block_writer(buf, 2, &one),
     )?;
-    ask(rt, "write-header-over-it", &mut buf, |buf| {
-        write_header(
-            buf,
-            Header {
-                owner: 5,
-                seconds: 5,
-            },
-        )
-    })
+    ask(
+        rt,
+        "write-header-over-it",
+        &mut buf,
+        |buf| ask_header_writer(buf, 5, 5),
+    )
 }
