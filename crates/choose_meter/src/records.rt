@@ -46,16 +46,12 @@ fn first_four(s: &[u8; SIZE]) -> [Meter; meters::MOST_METERS]
     ]
 }
 
-// The answer to a record of any bytes. Of more than four meters their number is enough.
+// The answer to a record of any bytes.
 pub(crate) fn answer_to(s: &[u8]) -> Result<Millihertz, Refusal>
     ensures { says result ≡ said_in s.now }
 {
     let Ok(s) = <&[u8; SIZE]>::try_from(s) else {
         return Err(Refusal::Length);
     };
-    let places = first_four(s);
-    let Some(meters) = places.get(..usize::from(s[0])) else {
-        return Err(Refusal::MeterCount);
-    };
-    meters::choose(meters)
+    meters::choose_counted(first_four(s), usize::from(s[0]))
 }

@@ -1,5 +1,5 @@
 -- What holds of every answer. Assumes nothing.
-use Rattle.std.proofs.Common.{◌≡◌, refl, sym, ap, ◌∙◌, subst, Bool, true, false, ◌&&◌, List, ◌++◌, ℕ, zero, suc, ◌*◌, ◌≤◌, ◌<◌, T, ℤ, pos, negsuc, neg_ℤ, length, take, take-take, length-take-le}
+use Rattle.std.proofs.Common.{◌≡◌, refl, sym, ap, ◌∙◌, subst, Bool, true, false, ◌&&◌, List, ◌++◌, ℕ, zero, suc, ◌*◌, ◌<◌, T, ℤ, pos, negsuc, neg_ℤ, length, take, take-take}
 use Rattle.std.specs.Int.Signed.{le_z}
 use Rattle.std.proofs.Math.Seq.{take-append_seam}
 use lib.Ieee.{Float}
@@ -71,10 +71,6 @@ four_places l n = go (count_out n) refl
     go : (t : Bool) → count_out n ≡ t → said_at (take most_meters l) n ≡ said_at l n
     go true e = sym (count_out_lem n (take n (take most_meters l)) e) ∙ count_out_lem n (take n l) e
     go false e = ap (said_with n) (take-take n most_meters l (count_in_lem n e))
-
--- of the meters in the first places
-pub at_hand : (places : List Meter) (n : ℕ) → n ≤ length places → said_of (take n places) ≡ said_at places n
-at_hand places n h = ap (λ (k : ℕ). said_with k (take n places)) (length-take-le n places h)
 
 pub too_many : (places : List Meter) (n : ℕ) → most_meters < n → refused 27 ≡ said_at places n
 too_many places n h = count_out_lem n (take n places) (none_or_many n (λ k. h))

@@ -6,7 +6,7 @@ mod deviation;
 
 ghost use Rattle.std.specs.Prelude.{◌≡◌, true, pos, neg_ℤ};
 ghost use Rattle.meters.specs.Binary32.{finite, hertz};
-ghost use Rattle.meters.specs.Meters.{between, fair_reading, fair_accuracy, usable, smaller, of_two, counting, said_of, says};
+ghost use Rattle.meters.specs.Meters.{between, fair_reading, fair_accuracy, usable, smaller, of_two, counting, said_of, said_at, says};
 
 pub use binary32::of_bits;
 use power::Millihertz;
@@ -125,4 +125,15 @@ pub fn choose(meters: &[Meter]) -> Result<Millihertz, Refusal>
         return Err(Refusal::NoUsableMeter);
     }
     Ok(deviation::in_mhz(deviation::of_reading(best.reading)))
+}
+
+// The same of `count` meters that stand in the first places. More meters than places are refused by their number alone, so any number may be given.
+#[tactic(auto, using(crate::proofs::Answers::too_many))]
+pub fn choose_counted(meters: [Meter; MOST_METERS], count: usize) -> Result<Millihertz, Refusal>
+    ensures { says result ≡ said_at meters count }
+{
+    let Some(first) = meters.get(..count) else {
+        return Err(Refusal::MeterCount);
+    };
+    choose(first)
 }

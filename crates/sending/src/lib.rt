@@ -2,8 +2,9 @@
 // fails ends the run, and standard error says so.
 #![tactic(auto)]
 
-ghost use Rattle.std.specs.Prelude.{List, [], ℕ, ◌≤◌, length, IfOk, OnOk, IsTrue, IsFalse};
+ghost use Rattle.std.specs.Prelude.{List, [], ℕ, ◌≤◌, length, Some, IfOk, OnOk, IsTrue, IsFalse};
 ghost use Rattle.std.specs.Io.KnownBytes.{Appends, ReadConsumes};
+ghost use Rattle.sending.specs.Failure.{failure_text};
 ghost use Rattle.sending.specs.Session.{Went, Ended, AllSent};
 
 use std::error::Error;
@@ -20,6 +21,8 @@ pub enum Failure {
 }
 
 impl fmt::Display for Failure {
+    ghost output = { λ failure. Some (failure_text failure) };
+
     fn fmt<W: fmt::Write>(&self, f: &mut fmt::Formatter<W>) -> fmt::Result {
         match self {
             Failure::Input => write!(f, "the input could not be read"),
