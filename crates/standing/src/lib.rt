@@ -21,8 +21,7 @@ use sheet::FairSheet;
 
 // Where a book stands between two of its blocks: `next` is the number of the block next in turn, 0 for the header. Before the header the plan
 // has no seconds, so that block 0 is the last one due and one rule serves the header too; it never has more than a book may have. The verdict has
-// a refusal's number, any byte, as `line::refusal_line` takes it (D69). Clauses see it by `stood`: for `Copy` a Model would have to give each
-// field back, the verdict too.
+// a refusal's number, any byte, as `line::refusal_line` takes it (D69). Clauses see it by `stood`.
 #[derive(Clone, Copy)]
 pub struct Standing {
     pub plan: Plan,
