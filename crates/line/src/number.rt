@@ -1,5 +1,4 @@
-// Numbers in decimal. What puts a part of a line is inlined in that line's writer: so the place in the buffer stays in a register, and a line takes less
-// than half the time (docs/LOOK-BACK.md).
+// Numbers in decimal. What puts a part of a line is inlined in that line's writer: so the place in the buffer stays in a register (docs/LOOK-BACK.md).
 ghost use Rattle.std.specs.Prelude.{◌≡◌, ℤ, pos, length};
 ghost use Rattle.std.specs.Int.Signed.{lt_z};
 ghost use Rattle.codec.specs.Lent.{HasRoom, Grown};
