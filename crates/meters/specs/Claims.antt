@@ -86,7 +86,7 @@ pub record Claims : Type 0 where
   pub lossless : Lossless
   pub rounded : Rounded
   pub counts : (ms : List Meter) → any_usable ms ≡ true → Counts ms (counting ms)
-  -- of any places and number, which are all that the code can be given
+  -- of any places and number, which are all that `choose_counted` can be given; a list is its own places, with its length
   pub passes_three : (places : List Meter) (n : ℕ) → PassesThree (said_at places n)
   -- a list of any number of meters, filled up by any others and cut to four places, with its number
   pub any_number : (ms others : List Meter) → said_at (take most_meters (ms ++ others)) (length ms) ≡ said_of ms

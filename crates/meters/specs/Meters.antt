@@ -95,7 +95,7 @@ said_with n ms = said_by (first (rules n ms)) (deviation_of (counting ms))
 abbrev pub said_of : List Meter → Said
 said_of ms = said_with (length ms) ms
 
--- the same from four places and the number of meters, as the code has them: more than four get 27, whatever they are
+-- the same from four places and the number of meters, as `choose_counted` has them: more than four get 27, whatever they are
 abbrev pub said_at : List Meter → ℕ → Said
 said_at places n = said_with n (take n places)
 
