@@ -124,7 +124,7 @@ fn main(rt: HostRuntime) {
         Err(Stop::Refused(refusal)) => Err(refusal.number()),
         Err(Stop::Unsent) => return,
     };
-    let line = standing::last_line(verdict, &printer.cut.kept.book);
+    let line = standing::last_line_by_number(verdict, &printer.cut.kept.book);
     let mut text = Lent::new(&mut printer.out);
     report::add(&mut text, line);
     let _ = send(&rt, text.filled());

@@ -5,6 +5,7 @@ use Rattle.std.specs.Result.{MatchResult, IsErrAnd}
 use Rattle.refusals.specs.declared.Refusal.{Refusal}
 use Rattle.refusals.specs.Refusals.{number_of, number_in}
 use Rattle.refusals.proofs.Laws.{not_zero}
+use Rattle.book.specs.declared.Book.{Book}
 use Rattle.block.specs.declared.Header.{Header}
 use Rattle.block.specs.Places.{block_size}
 use Rattle.block.specs.Header.{header_number, header_of, header_says}
@@ -13,9 +14,9 @@ use Rattle.block.proofs.Taken.{header_fields, header_zero}
 use Rattle.codec.specs.declared.lent.Lent.{Lent}
 use Rattle.codec.specs.Lent.{HasRoom}
 use Rattle.codec.proofs.Lents.{loosen, none}
-use Rattle.report.specs.Running.{Verdict, Accepted, Refused, block_in}
+use Rattle.report.specs.Running.{Verdict, Accepted, Refused, verdict_told, block_in}
 use Rattle.report.specs.Text.{block_room}
-use Rattle.standing.specs.Standing.{verdict_in, Standing, Went, kept_by, with_verdict, after_header, header_by, later_by, beyond_by, due_by, is_due, standing_in, bytes_due, Advances}
+use Rattle.standing.specs.Standing.{verdict_in, Standing, Went, kept_by, with_verdict, after_header, header_by, later_by, beyond_by, due_by, is_due, standing_in, last_by, bytes_due, Advances}
 
 -- ---- the verdict
 
@@ -37,6 +38,15 @@ due_err (Err e) n t h = refl
 -- q is the result r with its refusal's number alone
 abbrev pub Numbered : {A : Type 0} → Result A Refusal → Result A ℕ → Type 0
 Numbered r q = MatchResult r (λ x. q ≡ Ok x) (λ e. IsErrAnd q (λ n. n ≡ number_of e))
+
+-- and says the same, in a last line too
+pub numbered_told : {A : Type 0} (r : Result A Refusal) (q : Result A ℕ) → Numbered r q → verdict_in q ≡ verdict_told r
+numbered_told (Ok x) q n = rw n
+numbered_told (Err e) (Ok x) n = absurd n
+numbered_told (Err e) (Err m) n = rw n
+
+pub last_told : {A : Type 0} (r : Result A Refusal) (q : Result A ℕ) (k : Book) → Numbered r q → last_by (verdict_in q) k ≡ last_by (verdict_told r) k
+last_told r q k n = rw (numbered_told r q n)
 
 -- bytes after the last block, where nothing was refused
 pub past_last_told : {A : Type 0} (st : Standing) (s : List ℕ) (r : Result A Refusal) (q : Result A ℕ) → st.verdict ≡ Accepted → number_in r ≡ past_last s → Numbered r q → with_verdict st (verdict_in q) ≡ (beyond_by st.verdict st s).standing

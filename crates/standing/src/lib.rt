@@ -9,7 +9,7 @@ ghost use Rattle.record.specs.Record.{most_seconds};
 ghost use Rattle.block.specs.Book.{past_last};
 ghost use Rattle.block.specs.Header.{header_number};
 ghost use Rattle.report.specs.Text.{block_room, text_of};
-ghost use Rattle.report.specs.Running.{block_in};
+ghost use Rattle.report.specs.Running.{verdict_told, block_in};
 ghost use Rattle.standing.specs.Standing.{verdict_in, start, kept_by, is_due, bytes_due, header_by, later_by, beyond_by, standing_in, last_by, last_line_in, end_of, Advances};
 
 use block::Header;
@@ -43,7 +43,15 @@ pub fn past_last(bytes: &[u8]) -> Result<(), Refusal>
 }
 
 // The sum line, or the refusal that ends the text.
-pub fn last_line(verdict: Result<(), u8>, book: &Book) -> TextLine
+#[tactic(auto, using(crate::proofs::Steps::last_told))]
+pub fn last_line(verdict: Result<(), Refusal>, book: &Book) -> TextLine
+    ensures { text_of result ≡ last_by (verdict_told verdict) book.now }
+{
+    last_line_by_number(verdict.map_err(Refusal::number), book)
+}
+
+// The same, the refusal by its number: any byte.
+pub fn last_line_by_number(verdict: Result<(), u8>, book: &Book) -> TextLine
     ensures { text_of result ≡ last_by (verdict_in verdict) book.now }
 {
     match verdict {
@@ -159,6 +167,33 @@ impl Standing {
     pub fn last_line(&self) -> TextLine
         ensures { text_of result ≡ last_line_in (stood self.now) }
     {
-        last_line(self.end(), &self.kept.book)
+        last_line_by_number(self.end(), &self.kept.book)
+    }
+}
+
+#[cfg(test)]
+mod tests {
+    use super::*;
+    use row::{KwSeconds, Sums};
+    use std::test::Fail;
+
+    #[test]
+    fn last_line_is_of_the_verdict(rt: HostRuntime) -> Result<(), Fail> {
+        let mut book = Book::new(FairSheet::default());
+        book.sums = Sums {
+            a: KwSeconds(-79),
+            b: KwSeconds(30),
+            open: KwSeconds(0),
+            due: KwSeconds(-49),
+        };
+        let mut buf = [0; 2 * line::ROW_ROOM];
+        let mut text = Lent::new(&mut buf);
+        report::add(&mut text, last_line(Ok(()), &book));
+        report::add(&mut text, last_line(Err(Refusal::Check), &book));
+        assert_eq!(rt;
+            text.filled(),
+            b"sum A -79 B 30 open 0 due -49\nrefused 13 at 0\n".as_slice()
+        );
+        Ok(())
     }
 }
