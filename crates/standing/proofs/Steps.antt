@@ -39,7 +39,7 @@ due_err (Err e) n t h = refl
 abbrev pub Numbered : {A : Type 0} → Result A Refusal → Result A ℕ → Type 0
 Numbered r q = MatchResult r (λ x. q ≡ Ok x) (λ e. IsErrAnd q (λ n. n ≡ number_of e))
 
--- and says the same, in a last line too
+-- such a q says what r says, in a last line too
 pub numbered_told : {A : Type 0} (r : Result A Refusal) (q : Result A ℕ) → Numbered r q → verdict_in q ≡ verdict_told r
 numbered_told (Ok x) q n = rw n
 numbered_told (Err e) (Ok x) n = absurd n

@@ -50,7 +50,7 @@ pub fn last_line(verdict: Result<(), Refusal>, book: &Book) -> TextLine
     last_line_by_number(verdict.map_err(Refusal::number), book)
 }
 
-// The same, the refusal by its number: any byte.
+// The sum line, or the refusal that ends the text by its number, which is any byte.
 pub fn last_line_by_number(verdict: Result<(), u8>, book: &Book) -> TextLine
     ensures { text_of result ≡ last_by (verdict_in verdict) book.now }
 {
